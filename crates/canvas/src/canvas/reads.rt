@@ -1,0 +1,56 @@
+// What a canvas tells.
+ghost use mathlib.Core.Path.{_≡_};
+ghost use lib.ListN.{getD};
+ghost use Rattle.std.specs.Options.{Cases};
+ghost use Rattle.std.specs.Vec.{made};
+ghost use Rattle.display.specs.Place.{On, number};
+ghost use Rattle.display.specs.Surface.{wiped};
+ghost use Rattle.canvas.specs.Drawing.{surface};
+use super::Canvas;
+use crate::blanks::blank_glyph;
+use display::cell::Glyph;
+use display::place::Cursor;
+use display::place::Place;
+use display::size::Size;
+use std::alloc::AllocError;
+use std::alloc::Global;
+
+impl Canvas {
+    // A canvas of blanks, the cursor on the first place, pen 0.
+    pub fn new(heap: Global, size: Size) -> Result<Canvas, AllocError>
+        ensures { λ r. ⌜ made r (λ c. surface c ≡ wiped size) ⌝ }
+    {
+        let cells = vec![in heap; blank_glyph(); size.places()]?;
+        let cursor = Cursor { place: Place { row: 0, column: 0 }, held: false };
+        Ok(Canvas { size, cells, cursor, pen: 0 })
+    }
+
+    pub fn size(&self) -> Size
+        ensures { λ r. ⌜ r ≡ surface (now (self .entry)) .size ⌝ }
+    {
+        self.size
+    }
+
+    pub fn cursor(&self) -> Cursor
+        ensures { λ r. ⌜ r ≡ surface (now (self .entry)) .cursor ⌝ }
+    {
+        self.cursor
+    }
+
+    pub fn pen(&self) -> u8
+        ensures { λ r. ⌜ r ≡ surface (now (self .entry)) .pen ⌝ }
+    {
+        self.pen
+    }
+
+    // The glyph at a place of the canvas.
+    pub fn glyph(&self, place: Place) -> Option<Glyph>
+        ensures { λ r. ⌜ Cases r (On (now (self .entry) .size) place → ⊥) (λ g. g ≡ getD (surface (now (self .entry)) .picture) (number (now (self .entry) .size) place) g) ⌝ }
+    {
+        if place.row >= self.size.rows || place.column >= self.size.columns {
+            return None;
+        }
+        let at = self.size.number(place);
+        Some(self.cells[at])
+    }
+}

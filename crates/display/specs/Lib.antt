@@ -1,0 +1,4 @@
+pub mod Cell
+pub mod Limits
+pub mod Place
+pub mod Surface

@@ -1,0 +1,70 @@
+-- What a panel holds besides its reading state.
+--     Surface        a size, a picture row by row, the cursor, and the pen now set
+--     corner s       the last place of a panel of size s
+--     resting p      the cursor at p, unheld
+--     pictured s p   s with the picture p
+--     drawn s c      s with code c, in the pen now set, at the cursor's place
+--     at-cursor s k  s with the cursor k
+--     moved s p      s with the cursor at p, unheld
+--     inked s p      s with pen p set
+--     wiped z        all blanks, place (0, 0), unheld, pen 0
+--     Within P s     s is one that a panel with P pens can have
+use mathlib.Core.Path.{_≡_}
+use mathlib.Core.Bool.{Bool, false}
+use mathlib.Core.List.{List}
+use Prim.Native.Nat.{ℕ, _-_, _*_, _<_}
+use lib.ListN.{length, set, replicate}
+use Rattle.std.specs.shelf.Lists.{All}
+use Rattle.display.specs.Cell.{Code, blank, glyph-of}
+use Rattle.display.specs.Place.{On, number}
+use Rattle.display.specs.declared.cell.Glyph.{Glyph}
+use Rattle.display.specs.declared.place.Cursor.{Cursor}
+use Rattle.display.specs.declared.place.Place.{Place}
+use Rattle.display.specs.declared.size.Size.{Size}
+
+pub record Surface : Type 0 where
+  pub size : Size
+  pub picture : List Glyph
+  pub cursor : Cursor
+  pub pen : ℕ
+
+abbrev pub place-of : ℕ → ℕ → Place
+place-of r c = record { row = r; column = c }
+
+abbrev pub corner : Size → Place
+corner z = place-of (z .rows - 1) (z .columns - 1)
+
+abbrev pub resting : Place → Cursor
+resting p = record { place = p; held = false }
+
+abbrev pub pictured : Surface → List Glyph → Surface
+pictured s p = record { size = s .size; picture = p; cursor = s .cursor; pen = s .pen }
+
+abbrev pub drawn : Surface → ℕ → Surface
+drawn s c = pictured s (set (s .picture) (number (s .size) (s .cursor .place)) (glyph-of c (s .pen)))
+
+abbrev pub at-cursor : Surface → Cursor → Surface
+at-cursor s k = record { size = s .size; picture = s .picture; cursor = k; pen = s .pen }
+
+abbrev pub moved : Surface → Place → Surface
+moved s p = at-cursor s (resting p)
+
+abbrev pub inked : Surface → ℕ → Surface
+inked s p = record { size = s .size; picture = s .picture; cursor = s .cursor; pen = p }
+
+abbrev pub blanks : Size → List Glyph
+blanks z = replicate (z .rows * z .columns) blank
+
+abbrev pub wiped : Size → Surface
+wiped z = record { size = z; picture = blanks z; cursor = resting (place-of 0 0); pen = 0 }
+
+-- a printable code in one of the pens below P
+pub record Printed (P : ℕ) (g : Glyph) : Type 0 where
+  pub code : Code (g .code)
+  pub pen : g .pen < P
+
+pub record Within (P : ℕ) (s : Surface) : Type 0 where
+  pub filled : length (s .picture) ≡ s .size .rows * s .size .columns
+  pub cells : All (Printed P) (s .picture)
+  pub place : On (s .size) (s .cursor .place)
+  pub pen : s .pen < P
