@@ -1,3 +1,4 @@
-pub mod Meaning
 pub mod Answers
+pub mod Bytes
 pub mod Lawful
+pub mod Meaning

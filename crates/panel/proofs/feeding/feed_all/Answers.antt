@@ -3,7 +3,7 @@ use native.Mathlib.Omega.{arith}
 use lib.Seq.{take-all}
 use Rattle.std.proofs.shelf.Sums.{folded-more}
 use Rattle.panel.specs.Meaning.{feeds}
-use Rattle.panel.proofs.panel.feed_all.Needs as need
+use Rattle.panel.proofs.feeding.feed_all.Needs as need
 
 pub loop-byte-again : need.loop-byte-again
 loop-byte-again g c =

@@ -2,7 +2,7 @@ use Prim.Native.Nat.{_≤_}
 use mathlib.Core.Path.{_≡_}
 use lib.ListN.{length, take}
 use Rattle.panel.specs.Meaning.{feeds}
-use Rattle.panel.proofs.panel.feed_all.Given as given
+use Rattle.panel.proofs.feeding.feed_all.Given as given
 
 -- the answers stand, and the bytes so far were fed
 abbrev pub Inv-loop-byte : given.InvT-loop-byte

@@ -1,0 +1,6 @@
+pub mod Bounds
+pub mod Keeps
+pub mod Laws
+pub mod Moves
+pub mod Numbers
+pub mod Steps

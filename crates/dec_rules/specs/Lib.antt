@@ -1,0 +1,4 @@
+pub mod Motions
+pub mod Pens
+pub mod Reading
+pub mod Rules

@@ -1,0 +1,59 @@
+// Feeding whole byte strings, and what the laws give of them.
+ghost use mathlib.Core.Path.{_≡_};
+ghost use mathlib.Core.Bool.{false};
+ghost use Prim.Native.Nat.{_<_};
+ghost use Rattle.std.specs.declared.option.Option.the-variants.{Some};
+ghost use Rattle.display.specs.Cell.{Code};
+ghost use Rattle.display.specs.Surface.{at-cursor, drawn, inked, moved, wiped};
+ghost use Rattle.display.specs.declared.place.Place.{Place as At};
+ghost use Rattle.panel.specs.Lawful.{Open};
+ghost use Rattle.panel.specs.Meaning.{feeds, of};
+use crate::panel::Panel;
+
+// Feeds some bytes, one by one.
+pub fn feed_all<P: Panel>(panel: &mut P, bytes: &[u8])
+    ensures fixed { λ _. ⌜ answers (now (panel .exit)) ≡ answers (now (panel .entry)) ⌝ }
+    ensures after { λ _. ⌜ meaning (now (panel .exit)) ≡ feeds (fed (answers (now (panel .entry)))) (meaning (now (panel .entry))) (now (bytes .entry)) ⌝ }
+{
+    for byte in bytes {
+        panel.feed(*byte);
+    }
+}
+
+// Feeds the bytes of a motion. A ready panel lands where the motion is told to land, unheld and ready.
+pub fn feed_motion<P: Panel>(panel: &mut P, motion: u16)
+    ensures fixed { λ _. ⌜ answers (now (panel .exit)) ≡ answers (now (panel .entry)) ⌝ }
+    ensures after { λ _. ⌜ meaning (now (panel .exit)) ≡ feeds (fed (answers (now (panel .entry)))) (meaning (now (panel .entry))) (answers (now (panel .entry)) .motion-bytes motion) ⌝ }
+    ensures lands { λ _. ⌜ ((p : At) → meaning (now (panel .entry)) .mode ≡ ready → answers (now (panel .entry)) .lands motion (meaning (now (panel .entry)) .surface .cursor) ≡ Some p → meaning (now (panel .exit)) ≡ of (moved (meaning (now (panel .entry)) .surface) p) ready) ⌝ }
+{
+    let bytes = panel.motion_bytes(motion);
+    feed_all(panel, bytes.as_slice());
+}
+
+// Feeds a code. A ready, unheld panel sets the cell at the cursor and takes the after-state.
+pub fn feed_code<P: Panel>(panel: &mut P, code: u8)
+    ensures fixed { λ _. ⌜ answers (now (panel .exit)) ≡ answers (now (panel .entry)) ⌝ }
+    ensures after { λ _. ⌜ meaning (now (panel .exit)) ≡ fed (answers (now (panel .entry))) (meaning (now (panel .entry))) code ⌝ }
+    ensures prints { λ _. ⌜ (meaning (now (panel .entry)) .mode ≡ ready → meaning (now (panel .entry)) .surface .cursor .held ≡ false → Code code → Open (answers (now (panel .entry))) (meaning (now (panel .entry)) .surface) → meaning (now (panel .exit)) ≡ of (at-cursor (drawn (meaning (now (panel .entry)) .surface) code) (answers (now (panel .entry)) .after (meaning (now (panel .entry)) .surface .cursor .place))) ready) ⌝ }
+{
+    panel.feed(code);
+}
+
+// Feeds the bytes of a pen. A ready panel sets that pen.
+pub fn feed_pen<P: Panel>(panel: &mut P, pen: u8)
+    ensures fixed { λ _. ⌜ answers (now (panel .exit)) ≡ answers (now (panel .entry)) ⌝ }
+    ensures after { λ _. ⌜ meaning (now (panel .exit)) ≡ feeds (fed (answers (now (panel .entry)))) (meaning (now (panel .entry))) (answers (now (panel .entry)) .pen-bytes pen) ⌝ }
+    ensures inks { λ _. ⌜ (meaning (now (panel .entry)) .mode ≡ ready → pen < answers (now (panel .entry)) .pens → meaning (now (panel .exit)) ≡ of (inked (meaning (now (panel .entry)) .surface) pen) ready) ⌝ }
+{
+    let bytes = panel.pen_bytes(pen);
+    feed_all(panel, bytes.as_slice());
+}
+
+// Feeds the wipe bytes, which give one meaning whatever came before: all blanks, the first place, unheld, pen 0, ready.
+pub fn feed_wipe<P: Panel>(panel: &mut P)
+    ensures fixed { λ _. ⌜ answers (now (panel .exit)) ≡ answers (now (panel .entry)) ⌝ }
+    ensures wipes { λ _. ⌜ meaning (now (panel .exit)) ≡ of (wiped (answers (now (panel .entry)) .size)) ready ⌝ }
+{
+    let bytes = panel.wipe_bytes();
+    feed_all(panel, bytes.as_slice());
+}
