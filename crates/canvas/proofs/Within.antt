@@ -35,7 +35,7 @@ cut-is z r c h w =
 pub goto-is : (s : Surface) (r c : ℕ) → r < s .size .rows → c < s .size .columns → goto s r c ≡ moved s (place-of r c)
 goto-is s r c h w = ap (moved s) (cut-is (s .size) r c h w)
 
-all-blank : (P n : ℕ) → 0 < P → All (Printed P) (replicate n blank)
+pub all-blank : (P n : ℕ) → 0 < P → All (Printed P) (replicate n blank)
 all-blank P zero h = tt
 all-blank P (suc n) h = (record { code = record { least = omega arith; most = omega arith }; pen = h }, all-blank P n h)
 

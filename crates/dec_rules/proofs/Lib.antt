@@ -1,4 +1,5 @@
 pub mod Bounds
+pub mod Ends
 pub mod Keeps
 pub mod Laws
 pub mod Moves

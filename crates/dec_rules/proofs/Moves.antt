@@ -90,8 +90,8 @@ module _ (s : Surface) where
       let rest = decimal c ++ (72 ∷ []) in
       let one = valued none r in
       let two = valued (next-read one) c in
-      let er : max 1 r - 1 ≡ p .row = omega arith in
-      let ec : max 1 c - 1 ≡ p .column = omega arith in
+      let er : max r 1 - 1 ≡ p .row = omega arith in
+      let ec : max c 1 - 1 ≡ p .column = omega arith in
       opened s (decimal r ++ (59 ∷ rest))
       ∙ feeds-append fed (of s (Sequence none)) (decimal r) (59 ∷ rest)
       ∙ ap (λ m. feeds fed m (59 ∷ rest)) (number-read s none refl (omega arith) r few-rows)

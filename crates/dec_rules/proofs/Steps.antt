@@ -79,7 +79,7 @@ counted s n bs some few = go (cases-eq n 1)
       (ps : Parameters) × (first ps ≡ n) × (feeds fed (of s (Sequence none)) (cond (eqb n 1) [] (decimal n) ++ bs) ≡ feeds fed (of s (Sequence ps)) bs)
     go (inl one) = (none, sym one, ap (λ ds. feeds fed (of s (Sequence none)) (ds ++ bs)) (cond-true (eqb n 1) [] (decimal n) (eq-eqb n 1 one)))
     go (inr more) =
-        let value : max 1 n ≡ n = omega arith in
+        let value : max n 1 ≡ n = omega arith in
         (valued none n, value,
           ap (λ ds. feeds fed (of s (Sequence none)) (ds ++ bs)) (cond-false (eqb n 1) [] (decimal n) (ne-eqb n 1 more))
           ∙ feeds-append fed (of s (Sequence none)) (decimal n) bs

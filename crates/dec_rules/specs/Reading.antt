@@ -30,10 +30,10 @@ abbrev pub next-read : Parameters → Parameters
 next-read p = record { values = p .values; at = min 8 (p .at + 1) }
 
 abbrev pub first : Parameters → ℕ
-first p = max 1 (getD (p .values) 0 0)
+first p = max (getD (p .values) 0 0) 1
 
 abbrev pub second : Parameters → ℕ
-second p = max 1 (getD (p .values) 1 0)
+second p = max (getD (p .values) 1 0) 1
 
 abbrev pub pen-after : ℕ → ℕ → ℕ
 pen-after p v =

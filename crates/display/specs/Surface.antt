@@ -10,12 +10,13 @@
 --     wiped z        all blanks, place (0, 0), unheld, pen 0
 --     Within P s     s is one that a panel with P pens can have
 use mathlib.Core.Path.{_≡_}
-use mathlib.Core.Bool.{Bool, false}
-use mathlib.Core.List.{List}
+use mathlib.Core.Bool.{Bool, true, false, _&&_}
+use mathlib.Core.List.{List, [], _∷_}
 use Prim.Native.Nat.{ℕ, _-_, _*_, _<_}
+use lib.Dec.{ltb}
 use lib.ListN.{length, set, replicate}
 use Rattle.std.specs.shelf.Lists.{All}
-use Rattle.display.specs.Cell.{Code, blank, glyph-of}
+use Rattle.display.specs.Cell.{Code, blank, glyph-of, is-code}
 use Rattle.display.specs.Place.{On, number}
 use Rattle.display.specs.declared.cell.Glyph.{Glyph}
 use Rattle.display.specs.declared.place.Cursor.{Cursor}
@@ -62,6 +63,14 @@ wiped z = record { size = z; picture = blanks z; cursor = resting (place-of 0 0)
 pub record Printed (P : ℕ) (g : Glyph) : Type 0 where
   pub code : Code (g .code)
   pub pen : g .pen < P
+
+abbrev pub is-printed : ℕ → Glyph → Bool
+is-printed P g = is-code (g .code) && ltb (g .pen) P
+
+-- the same of every cell, as a test
+abbrev pub all-printed : ℕ → List Glyph → Bool
+all-printed P [] = true
+all-printed P (g ∷ gs) = is-printed P g && all-printed P gs
 
 pub record Within (P : ℕ) (s : Surface) : Type 0 where
   pub filled : length (s .picture) ≡ s .size .rows * s .size .columns
