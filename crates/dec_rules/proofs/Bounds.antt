@@ -29,46 +29,48 @@ use Rattle.dec_rules.proofs.Moves.{tested}
 use Rattle.dec_rules.proofs.Numbers.{Good, good, numbered-past, numbered-some}
 
 -- a byte string that is neither empty nor long
-abbrev Short : List ℕ → Type 0
+abbrev pub Short : List ℕ → Type 0
 Short bs = (1 ≤ length bs) × (length bs ≤ 16)
 
-number-short : (n : ℕ) → n < 100 → length (decimal n) ≤ 2
-number-short n h = length-decimal-le 2 n (omega arith) h (omega arith)
+number-short : (n : ℕ) → n < 1000 → length (decimal n) ≤ 3
+number-short n h = length-decimal-le 3 n (omega arith) h (omega arith)
 
-count-short : (n : ℕ) → n < 100 → length (cond (eqb n 1) [] (decimal n)) ≤ 2
-count-short n h = cond-both (eqb n 1) [] (decimal n) (λ (ds : List ℕ). length ds ≤ 2) (λ _. omega arith) (λ _. number-short n h)
+count-short : (n : ℕ) → n < 1000 → length (cond (eqb n 1) [] (decimal n)) ≤ 3
+count-short n h = cond-both (eqb n 1) [] (decimal n) (λ (ds : List ℕ). length ds ≤ 3) (λ _. omega arith) (λ _. number-short n h)
 
-relative-short : (n letter : ℕ) → n < 100 → Short (relative n letter)
+pub relative-short : (n letter : ℕ) → n < 1000 → Short (relative n letter)
 relative-short n letter h =
     let ds = cond (eqb n 1) [] (decimal n) in
     let few = count-short n h in
     let all = length-append ds (letter ∷ []) in
     (omega arith, omega arith)
 
+pub address-short : (p : Place) → p .row + 1 < 1000 → p .column + 1 < 1000 → Short (spelled (Address p))
+address-short p low left =
+    let r = decimal (p .row + 1) in
+    let c = decimal (p .column + 1) in
+    let few-r = number-short (p .row + 1) low in
+    let few-c = number-short (p .column + 1) left in
+    let inner = length-append c (0x48 ∷ []) in
+    let all = length-append r (0x3b ∷ (c ++ (0x48 ∷ []))) in
+    (omega arith, omega arith)
+
 spelled-short : (z : Size) (m : Motion) → Good z m → Short (spelled m)
-unfolding spelled
 spelled-short z Return g = (omega arith, omega arith)
 spelled-short z Back g = (omega arith, omega arith)
 spelled-short z Feed g = (omega arith, omega arith)
-spelled-short z (Up n) g = relative-short n 0x41 (g .1)
-spelled-short z (Down n) g = relative-short n 0x42 (g .1)
-spelled-short z (Right n) g = relative-short n 0x43 (g .1)
-spelled-short z (Left n) g = relative-short n 0x44 (g .1)
+spelled-short z (Up n) g = relative-short n 0x41 (let few = g .1 in omega arith)
+spelled-short z (Down n) g = relative-short n 0x42 (let few = g .1 in omega arith)
+spelled-short z (Right n) g = relative-short n 0x43 (let few = g .1 in omega arith)
+spelled-short z (Left n) g = relative-short n 0x44 (let few = g .1 in omega arith)
 spelled-short z (Address p) g =
     let high = z .«rows_most» in
     let wide = z .«columns_most» in
     let low = g .row in
     let left = g .column in
-    let r = decimal (p .row + 1) in
-    let c = decimal (p .column + 1) in
-    let few-r = number-short (p .row + 1) (omega arith) in
-    let few-c = number-short (p .column + 1) (omega arith) in
-    let inner = length-append c (0x48 ∷ []) in
-    let all = length-append r (0x3b ∷ (c ++ (0x48 ∷ []))) in
-    (omega arith, omega arith)
+    address-short p (omega arith) (omega arith)
 
 takes-little : (m : Motion) → takes m ≤ 1000
-unfolding takes
 takes-little Return = omega arith
 takes-little Back = omega arith
 takes-little Feed = omega arith
@@ -79,7 +81,6 @@ takes-little (Left n) = omega arith
 takes-little (Address p) = omega arith
 
 offered-on : (z : Size) (k : Cursor) (m : Motion) (p : Place) → On z (k .place) → Good z m → offered z k m ≡ Some p → On z p
-unfolding offered
 offered-on z k Return p on g e =
     let here : place-of (k .place .row) 0 ≡ p = cc in
     let wide = z .«columns_least» in
@@ -111,7 +112,7 @@ offered-on z k (Address q) p on g e = let here : q ≡ p = cc in subst (On z) he
 attribute-short : (p bit v : ℕ) → length (attribute p bit v) ≤ 2
 attribute-short p bit v = cond-both (eqb (bitAnd p bit) 0) [] (0x3b ∷ (v ∷ [])) (λ (ds : List ℕ). length ds ≤ 2) (λ _. omega arith) (λ _. omega arith)
 
-pen-short : (p : ℕ) → length (pen-bytes p) ≤ 16
+pub pen-short : (p : ℕ) → length (pen-bytes p) ≤ 16
 pen-short p =
     let a = attribute p 1 0x31 in
     let b = attribute p 2 0x34 in

@@ -83,7 +83,6 @@ module _ (s : Surface) where
   home-read ps = refl
 
   address-read : (p : Place) → p .row + 1 < 100 → p .column + 1 < 100 → feeds fed (of s Ground) (spelled (Address p)) ≡ of (goto s (p .row) (p .column)) Ground
-  unfolding spelled
   address-read p few-rows few-columns =
       let r = p .row + 1 in
       let c = p .column + 1 in
@@ -107,7 +106,6 @@ module _ (s : Surface) where
 
     pub motion-read : (m : Motion) (p : Place) → Good (s .size) m → offered (s .size) (s .cursor) m ≡ Some p
       → feeds fed (of s Ground) (spelled m) ≡ of (moved s p) Ground
-    unfolding offered spelled
     motion-read Return p g e =
         let here : place-of row 0 ≡ p = cc in
         let wide = s .size .«columns_least» in

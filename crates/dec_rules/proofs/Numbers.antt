@@ -1,17 +1,18 @@
 -- The motions by their numbers. Assumes nothing.
 --     Good z m     what holds of each motion that has a number on a panel of size z
-use mathlib.Core.Path.{_≡_, refl, subst, sym, ap, _∙_}
+use mathlib.Core.Path.{_≡_, refl, subst, sym, ap₂, _∙_}
 use mathlib.Core.Bool.{Bool, true, false, cond}
 use Prim.Native.Nat.{ℕ, _+_, _-_, _*_, _/_, _%_, _<_, _≤_}
 use native.Mathlib.Omega.{arith}
 use lib.Dec.{eqb, leb, ltb}
 use Rattle.std.specs.declared.option.Option.{Option}
 use Rattle.std.specs.declared.option.Option.the-variants.{Some, None}
-use Rattle.std.proofs.shelf.Bits.{div-below, mod-below}
-use Rattle.std.proofs.shelf.Tests.{cond-both, cond-false, eqb-false, le-ltb, leb-false, leb-true, lt-leb, ltb-true, ne-eqb}
-use Rattle.display.specs.Place.{On}
+use Rattle.std.proofs.shelf.Tests.{cond-both, cond-false, cond-true, eqb-false, le-ltb, leb-false, leb-true, lt-leb, lt-ltb, ltb-false, ltb-true, ne-eqb}
+use Rattle.display.specs.Place.{Numbered, On}
 use Rattle.display.specs.Surface.{place-of}
+use Rattle.display.specs.declared.place.Place.{Place}
 use Rattle.display.specs.declared.size.Size.{Size}
+use Rattle.display.proofs.Places.{number-below, numbered-place}
 use Rattle.dec_rules.specs.Motions.{numbered}
 use Rattle.dec_rules.specs.declared.motion.Motion.{Motion}
 use Rattle.dec_rules.specs.declared.motion.Motion.the-variants.{Return, Back, Feed, Up, Down, Right, Left, Address}
@@ -30,13 +31,7 @@ abbrev GoodIf : Size → Option Motion → Type 0
 GoodIf z None = Unit {0}
 GoodIf z (Some m) = Good z m
 
-place-on : (z : Size) (k : ℕ) → k < z .rows * z .columns → On z (place-of (k / z .columns) (k % z .columns))
-place-on z k h =
-    let w : 0 < z .columns = let two = z .«columns_least» in omega arith in
-    record { row = div-below k (z .columns) (z .rows) w h; column = mod-below k (z .columns) w }
-
 good-if : (z : Size) (n : ℕ) → GoodIf z (numbered z n)
-unfolding numbered
 good-if z n =
     cond-both (eqb n 0) _ _ (GoodIf z) (λ _. tt) λ e0.
     cond-both (eqb n 1) _ _ (GoodIf z) (λ _. tt) λ e1.
@@ -51,15 +46,15 @@ good-if z n =
     cond-both (leb n 127) _ _ (GoodIf z) (λ t. let u = leb-true n 127 t in (omega arith, omega arith)) λ e5.
     let n5 = leb-false n 127 e5 in
     cond-both (leb n 206) _ _ (GoodIf z) (λ t. let u = leb-true n 206 t in (omega arith, omega arith)) λ e6.
-    cond-both (ltb (n - 207) (z .rows * z .columns)) _ _ (GoodIf z) (λ t. place-on z (n - 207) (ltb-true (n - 207) (z .rows * z .columns) t)) (λ _. tt)
+    cond-both (ltb (n - 207) (z .rows * z .columns)) _ _ (GoodIf z) (λ t. numbered-place z (n - 207) (ltb-true (n - 207) (z .rows * z .columns) t) .on) (λ _. tt)
 
 pub good : (z : Size) (n : ℕ) (m : Motion) → numbered z n ≡ Some m → Good z m
 good z n m e = subst (GoodIf z) e (good-if z n)
 
--- past the last number there is no motion
-pub numbered-past : (z : Size) (n : ℕ) → 207 + z .rows * z .columns ≤ n → numbered z n ≡ None
-unfolding numbered
-numbered-past z n h =
+-- the numbers from 207 on are the addresses of the places
+past-relative : (z : Size) (n : ℕ) → 207 ≤ n
+  → numbered z n ≡ cond (ltb (n - 207) (z .rows * z .columns)) (Some (Address (place-of ((n - 207) / z .columns) ((n - 207) % z .columns)))) None
+past-relative z n h =
     cond-false (eqb n 0) _ _ (ne-eqb n 0 (omega arith))
     ∙ cond-false (eqb n 1) _ _ (ne-eqb n 1 (omega arith))
     ∙ cond-false (eqb n 2) _ _ (ne-eqb n 2 (omega arith))
@@ -67,6 +62,19 @@ numbered-past z n h =
     ∙ cond-false (leb n 48) _ _ (lt-leb n 48 (omega arith))
     ∙ cond-false (leb n 127) _ _ (lt-leb n 127 (omega arith))
     ∙ cond-false (leb n 206) _ _ (lt-leb n 206 (omega arith))
+
+pub numbered-address : (z : Size) (n : ℕ) (p : Place) → 207 ≤ n → Numbered z (n - 207) p → numbered z n ≡ Some (Address p)
+numbered-address z n p h is =
+    let within = number-below z p (is .on) in
+    let same = is .is in
+    past-relative z n h
+    ∙ cond-true (ltb (n - 207) (z .rows * z .columns)) _ _ (lt-ltb (n - 207) (z .rows * z .columns) (omega arith))
+    ∙ sym (ap₂ (λ r c. Some (Address (place-of r c))) (is .row) (is .column))
+
+-- past the last number there is no motion
+pub numbered-past : (z : Size) (n : ℕ) → 207 + z .rows * z .columns ≤ n → numbered z n ≡ None
+numbered-past z n h =
+    past-relative z n (omega arith)
     ∙ cond-false (ltb (n - 207) (z .rows * z .columns)) _ _ (le-ltb (n - 207) (z .rows * z .columns) (omega arith))
 
 abbrev IsSome : Option Motion → Type 0
@@ -74,7 +82,6 @@ IsSome None = ⊥
 IsSome (Some m) = Unit {0}
 
 some-if : (z : Size) (n : ℕ) → n < 207 + z .rows * z .columns → IsSome (numbered z n)
-unfolding numbered
 some-if z n h =
     cond-both (eqb n 0) _ _ IsSome (λ _. tt) λ e0.
     cond-both (eqb n 1) _ _ IsSome (λ _. tt) λ e1.
@@ -84,7 +91,7 @@ some-if z n h =
     cond-both (leb n 127) _ _ IsSome (λ _. tt) λ e5.
     cond-both (leb n 206) _ _ IsSome (λ _. tt) λ e6.
     let past = leb-false n 206 e6 in
-    cond-both (ltb (n - 207) (z .rows * z .columns)) _ _ IsSome (λ _. tt) (λ e. let far = Rattle.std.proofs.shelf.Tests.ltb-false (n - 207) (z .rows * z .columns) e in omega arith)
+    cond-both (ltb (n - 207) (z .rows * z .columns)) _ _ IsSome (λ _. tt) (λ e. let far = ltb-false (n - 207) (z .rows * z .columns) e in omega arith)
 
 -- each number below the last has a motion
 pub numbered-some : (z : Size) (n : ℕ) → n < 207 + z .rows * z .columns → (m : Motion) × (numbered z n ≡ Some m)

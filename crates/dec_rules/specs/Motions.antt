@@ -21,7 +21,7 @@ use Rattle.dec_rules.specs.Rules.{after}
 use Rattle.dec_rules.specs.declared.motion.Motion.{Motion}
 use Rattle.dec_rules.specs.declared.motion.Motion.the-variants.{Return, Back, Feed, Up, Down, Right, Left, Address}
 
-unfoldable pub numbered : Size → ℕ → Option Motion
+abbrev pub numbered : Size → ℕ → Option Motion
 numbered z n =
     cond (eqb n 0) (Some Return) (
     cond (eqb n 1) (Some Back) (
@@ -35,7 +35,7 @@ numbered z n =
 abbrev pub unheld : Cursor → Option Place → Option Place
 unheld k o = cond (k .held) None o
 
-unfoldable pub offered : Size → Cursor → Motion → Option Place
+abbrev pub offered : Size → Cursor → Motion → Option Place
 offered z k Return = Some (place-of (k .place .row) 0)
 offered z k Back = unheld k (cond (ltb 0 (k .place .column)) (Some (place-of (k .place .row) (k .place .column - 1))) None)
 offered z k Feed = unheld k (cond (ltb (k .place .row) (z .rows - 1)) (Some (place-of (k .place .row + 1) (k .place .column))) None)
@@ -49,7 +49,7 @@ offered z k (Address p) = Some p
 abbrev pub relative : ℕ → ℕ → List ℕ
 relative n letter = (0x1b ∷ 0x5b ∷ []) ++ (cond (eqb n 1) [] (decimal n) ++ (letter ∷ []))
 
-unfoldable pub spelled : Motion → List ℕ
+abbrev pub spelled : Motion → List ℕ
 spelled Return = 0x0d ∷ []
 spelled Back = 0x08 ∷ []
 spelled Feed = 0x0a ∷ []
@@ -59,7 +59,7 @@ spelled (Right n) = relative n 0x43
 spelled (Left n) = relative n 0x44
 spelled (Address p) = (0x1b ∷ 0x5b ∷ []) ++ (decimal (p .row + 1) ++ ((0x3b ∷ []) ++ (decimal (p .column + 1) ++ (0x48 ∷ []))))
 
-unfoldable pub takes : Motion → ℕ
+abbrev pub takes : Motion → ℕ
 takes Return = 0
 takes Back = 0
 takes Feed = 0

@@ -1,9 +1,9 @@
 // Places of a panel, and the cursor.
 ghost use mathlib.Core.Path.{_≡_};
-ghost use Prim.Native.Nat.{_*_, _<_};
+ghost use Prim.Native.Nat.{_*_, _<_, _≤_};
 ghost use Rattle.std.specs.Options.{Cases};
 ghost use Rattle.display.specs.Limits.{Allowed};
-ghost use Rattle.display.specs.Place.{On, number};
+ghost use Rattle.display.specs.Place.{Numbered, On, number};
 use crate::size::Size;
 
 // A row and a column, counted from 0.
@@ -55,5 +55,16 @@ impl Size {
         ensures below { λ r. ⌜ (On (now (self .entry)) place → r < now (self .entry) .rows * now (self .entry) .columns) ⌝ }
     {
         place.row as usize * self.columns as usize + place.column as usize
+    }
+
+    // The place that has a number, if there is one.
+    pub fn place_at(&self, number: usize) -> Option<Place>
+        ensures { λ r. ⌜ Cases r (now (self .entry) .rows * now (self .entry) .columns ≤ number) (Numbered (now (self .entry)) number) ⌝ }
+    {
+        if number >= self.places() {
+            return None;
+        }
+        let columns = self.columns as usize;
+        Some(Place { row: (number / columns) as u8, column: (number % columns) as u8 })
     }
 }
