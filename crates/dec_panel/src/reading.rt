@@ -1,8 +1,9 @@
 // What the bytes of codes and sequences do.
 ghost use mathlib.Core.Path.{_≡_};
+ghost use Prim.Native.Nat.{_<_};
 ghost use Rattle.display.specs.Surface.{at-cursor};
 ghost use Rattle.canvas.specs.Drawing.{surface};
-ghost use Rattle.dec_rules.specs.Reading.{digit-read, ended, next-read, none, pen-after, pen-by};
+ghost use Rattle.dec_rules.specs.Reading.{digit-read, ended, none, pen-after, pen-by};
 ghost use Rattle.dec_rules.specs.Rules.{after, printed, unwrapped};
 use canvas::canvas::Canvas;
 use dec_rules::reading::Parameters;
@@ -16,24 +17,12 @@ pub(crate) fn no_parameter() -> Parameters
 
 // A digit joins the parameter being read. A value above 999 counts as 999.
 pub(crate) fn read_digit(parameters: &mut Parameters, digit: u8)
+    requires { ⌜ now parameters .at < 8 ⌝ }
     ensures { λ _. ⌜ now (parameters .exit) ≡ digit-read (now (parameters .entry)) digit ⌝ }
 {
     let at = parameters.at;
-    if at < 8 {
-        let value = parameters.values[at] as u32 * 10 + digit as u32;
-        parameters.values[at] = value.min(999) as u16;
-    }
-}
-
-// The next parameter is read.
-pub(crate) fn read_next(parameters: &mut Parameters)
-    ensures { λ _. ⌜ now (parameters .exit) ≡ next-read (now (parameters .entry)) ⌝ }
-{
-    if parameters.at < 8 {
-        parameters.at += 1;
-    } else {
-        parameters.at = 8;
-    }
+    let value = parameters.values[at] as u32 * 10 + digit as u32;
+    parameters.values[at] = value.min(999) as u16;
 }
 
 // A pending wrap takes place: a held cursor goes to column 0 of the next row.

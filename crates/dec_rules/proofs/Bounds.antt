@@ -137,7 +137,6 @@ module _ (z : Size) where
       go (Some m) e h = offered-on z k m p on (good z n m e) h
 
   pub bounded : Bounded (answers z)
-  unfolding answers
   bounded =
       let size = mul-le (z .rows) (z .columns) 24 80 (z .«rows_most») (z .«columns_most») in
       record {

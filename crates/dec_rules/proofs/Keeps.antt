@@ -53,11 +53,9 @@ pub record Kept (z : Size) (s : Surface) : Type 0 where
 
 module _ (z : Size) where
   pub sound-of : (s : Surface) (r : Reading) → Kept z s → Sound (answers z) (of s r)
-  unfolding answers
   sound-of s r k = record { sized = k .sized; within = k .within }
 
   pub kept-of : (m : Meaning Reading) → Sound (answers z) m → Kept z (m .surface)
-  unfolding answers
   kept-of m h = record { sized = h .sized; within = h .within }
 
   module _ (s : Surface) (k : Kept z s) where

@@ -80,7 +80,6 @@ module _ (z : Size) where
           motion-read s (kept .within .place) m p (subst (λ y. Rattle.dec_rules.proofs.Numbers.Good y m) same (good z n m e)) (subst (λ y. offered y (s .cursor) m ≡ Some p) same offer)
 
   pub lawful : Lawful Ground (answers z) fed
-  unfolding answers
   lawful = record {
     bounded = bounded z;
     keeps = keeps z;

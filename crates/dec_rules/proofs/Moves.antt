@@ -12,19 +12,19 @@ use Rattle.std.proofs.shelf.Tests.{cond-true, leb-true, lt-ltb, ltb-true}
 use Rattle.display.specs.Place.{On}
 use Rattle.display.specs.Surface.{Surface, moved, place-of}
 use Rattle.display.specs.declared.place.Place.{Place}
-use Rattle.canvas.specs.Drawing.{goto, line-fed}
+use Rattle.canvas.specs.Drawing.{goto}
 use Rattle.canvas.proofs.Within.{goto-is}
 use Rattle.panel.specs.Meaning.{feeds, of}
 use Rattle.panel.proofs.Feeds.{feeds-append}
 use Rattle.dec_rules.specs.Motions.{offered, relative, spelled}
 use Rattle.dec_rules.specs.Reading.{ended, first, next-read, none, second, valued}
-use Rattle.dec_rules.specs.Rules.{coded, controlled, fed}
+use Rattle.dec_rules.specs.Rules.{coded, fed}
 use Rattle.dec_rules.specs.declared.motion.Motion.{Motion}
 use Rattle.dec_rules.specs.declared.motion.Motion.the-variants.{Return, Back, Feed, Up, Down, Right, Left, Address}
 use Rattle.dec_rules.specs.declared.reading.Parameters.{Parameters}
 use Rattle.dec_rules.specs.declared.reading.Reading.the-variants.{Ground, Sequence}
 use Rattle.dec_rules.proofs.Numbers.{Good}
-use Rattle.dec_rules.proofs.Steps.{counted, number-read, opened}
+use Rattle.dec_rules.proofs.Steps.{counted, fed-back, fed-line-feed, fed-return, fed-separator, number-read, opened}
 
 -- a motion that is offered was tested, and lands where it says
 pub tested : (h t : Bool) (q p : Place) → cond h None (cond t (Some q) None) ≡ Some p → (t ≡ true) × (q ≡ p)
@@ -62,22 +62,6 @@ module _ (s : Surface) where
   unfolding fed coded ended
   left-read n = relative-read s n 68 (λ k. goto s row (column - k)) (λ ps. refl)
 
-  return-read : feeds fed (of s Ground) (13 ∷ []) ≡ of (goto s row 0) Ground
-  unfolding fed controlled
-  return-read = refl
-
-  back-read : feeds fed (of s Ground) (8 ∷ []) ≡ of (goto s row (column - 1)) Ground
-  unfolding fed controlled
-  back-read = refl
-
-  feed-read : feeds fed (of s Ground) (10 ∷ []) ≡ of (line-fed s) Ground
-  unfolding fed controlled
-  feed-read = refl
-
-  separator-read : (ps : Parameters) → fed (of s (Sequence ps)) 59 ≡ of s (Sequence (next-read ps))
-  unfolding fed coded
-  separator-read ps = refl
-
   home-read : (ps : Parameters) → fed (of s (Sequence ps)) 72 ≡ of (goto s (first ps - 1) (second ps - 1)) Ground
   unfolding fed coded ended
   home-read ps = refl
@@ -93,10 +77,10 @@ module _ (s : Surface) where
       let ec : max c 1 - 1 ≡ p .column = omega arith in
       opened s (decimal r ++ (59 ∷ rest))
       ∙ feeds-append fed (of s (Sequence none)) (decimal r) (59 ∷ rest)
-      ∙ ap (λ m. feeds fed m (59 ∷ rest)) (number-read s none refl (omega arith) r few-rows)
-      ∙ ap (λ m. feeds fed m rest) (separator-read one)
+      ∙ ap (λ m. feeds fed m (59 ∷ rest)) (number-read s none refl (omega arith) (omega arith) r few-rows)
+      ∙ ap (λ m. feeds fed m rest) (fed-separator s one)
       ∙ feeds-append fed (of s (Sequence (next-read one))) (decimal c) (72 ∷ [])
-      ∙ ap (λ m. fed m 72) (number-read s (next-read one) refl (omega arith) c few-columns)
+      ∙ ap (λ m. fed m 72) (number-read s (next-read one) refl (omega arith) (omega arith) c few-columns)
       ∙ home-read two
       ∙ ap₂ (λ x y. of (goto s x y) Ground) er ec
 
@@ -109,15 +93,15 @@ module _ (s : Surface) where
     motion-read Return p g e =
         let here : place-of row 0 ≡ p = cc in
         let wide = s .size .«columns_least» in
-        return-read ∙ arrives row 0 p (on .row) (omega arith) here
+        fed-return s Ground ∙ arrives row 0 p (on .row) (omega arith) here
     motion-read Back p g e =
         let (t, here) = tested (s .cursor .held) (ltb 0 column) (place-of row (column - 1)) p e in
         let in′ = on .column in
-        back-read ∙ arrives row (column - 1) p (on .row) (omega arith) here
+        fed-back s Ground ∙ arrives row (column - 1) p (on .row) (omega arith) here
     motion-read Feed p g e =
         let (t, here) = tested (s .cursor .held) (ltb row (s .size .rows - 1)) (place-of (row + 1) column) p e in
         let above = ltb-true row (s .size .rows - 1) t in
-        feed-read ∙ ap (λ t. of t Ground) (cond-true _ _ _ (lt-ltb (row + 1) (s .size .rows) (omega arith)) ∙ ap (moved s) here)
+        fed-line-feed s Ground ∙ ap (λ t. of t Ground) (cond-true _ _ _ (lt-ltb (row + 1) (s .size .rows) (omega arith)) ∙ ap (moved s) here)
     motion-read (Up n) p g e =
         let (t, here) = tested (s .cursor .held) (leb n row) (place-of (row - n) column) p e in
         let high = on .row in

@@ -74,7 +74,7 @@ abbrev pub of-motion : {X : Type 0} → X → (Motion → X) → Option Motion �
 of-motion x f None = x
 of-motion x f (Some m) = f m
 
-unfoldable pub answers : Size → Answers
+abbrev pub answers : Size → Answers
 answers z = record {
   size = z;
   pens = 16;

@@ -1,7 +1,7 @@
 -- Parameters, and what the end of a control sequence does.
 --     none             no parameter is read yet
 --     digit-read p d   the digit d joins the parameter being read; a value above 999 counts as 999, and past the eighth nothing is kept
---     next-read p      the next parameter is read
+--     next-read p      the next parameter is read; after the eighth none is counted
 --     first, second    a parameter that counts from 1: missing or 0 counts as 1
 --     pen-after p v    the pen p after the parameter v: 0 sets pen 0; 1, 4, 5, 7 set bold, underscore, blink, reverse
 --     pen-by p ps      the pen p after all parameters in their order
@@ -10,7 +10,7 @@ use mathlib.Core.Bool.{cond}
 use mathlib.Core.List.{List}
 use Prim.Native.Nat.{ℕ, _+_, _-_, _*_, min, max}
 use lib.Bits.{bitOr}
-use lib.Dec.{eqb}
+use lib.Dec.{eqb, ltb}
 use lib.ListN.{getD, replicate, set, take}
 use Rattle.std.specs.Iters.{folded}
 use Rattle.display.specs.Surface.{Surface, inked, moved}
@@ -23,11 +23,15 @@ none = record { values = replicate 8 0; at = 0 }
 abbrev pub valued : Parameters → ℕ → Parameters
 valued p v = record { values = set (p .values) (p .at) v; at = p .at }
 
+-- the first eight parameters count
+abbrev pub counting : Parameters → Parameters → Parameters
+counting p q = cond (ltb (p .at) 8) q p
+
 abbrev pub digit-read : Parameters → ℕ → Parameters
-digit-read p d = valued p (min 999 (getD (p .values) (p .at) 0 * 10 + d))
+digit-read p d = counting p (valued p (min 999 (getD (p .values) (p .at) 0 * 10 + d)))
 
 abbrev pub next-read : Parameters → Parameters
-next-read p = record { values = p .values; at = min 8 (p .at + 1) }
+next-read p = counting p (record { values = p .values; at = p .at + 1 })
 
 abbrev pub first : Parameters → ℕ
 first p = max (getD (p .values) 0 0) 1

@@ -1,6 +1,6 @@
 -- The tests for a printable code and for a picture of them. Assumes nothing.
 use mathlib.Core.Path.{_≡_, refl}
-use mathlib.Core.Bool.{true, false}
+use mathlib.Core.Bool.{Bool, true, false}
 use mathlib.Core.List.{List}
 use Prim.Native.Nat.{ℕ}
 use lib.Dec.{leb, ltb}
@@ -19,6 +19,13 @@ pub true-code : (n : ℕ) → is-code n ≡ true → Code n
 true-code n e =
     let both = and-parts (leb 32 n) (leb n 126) e in
     record { least = leb-true 32 n (both .0); most = leb-true n 126 (both .1) }
+
+pub not-code : (n : ℕ) → (Code n → ⊥) → is-code n ≡ false
+not-code n h = go (is-code n) refl
+  where
+    go : (b : Bool) → is-code n ≡ b → is-code n ≡ false
+    go true e = absurd (h (true-code n e))
+    go false e = e
 
 decides-code : (n : ℕ) → Decides (is-code n) (Code n)
 decides-code n = (true-code n, code-true n)
