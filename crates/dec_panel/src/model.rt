@@ -7,7 +7,8 @@ ghost use Rattle.canvas.specs.Drawing.{surface};
 use canvas::canvas::Canvas;
 use dec_rules::reading::Reading;
 
-mod panel;
+pub mod panel;
+pub mod readout;
 
 #[derive(Drop)]
 pub struct DecPanel {
