@@ -1,0 +1,54 @@
+// The whole report.
+ghost use mathlib.Core.Path.{_≡_};
+ghost use mathlib.Core.Bool.{Bool, cond};
+ghost use mathlib.Core.List.{[], _++_};
+ghost use lib.ListN.{length};
+ghost use Rattle.std.specs.Of.Vec.{vec-items};
+ghost use Rattle.std.specs.Orderings.{Decides};
+ghost use Rattle.std.specs.Vec.{made};
+ghost use Rattle.panel.specs.Meaning.{feeds};
+ghost use Rattle.view.specs.Report.{pen-digit, plain, reported, rows-of};
+use crate::pieces::append_cursor;
+use crate::pieces::append_pen;
+use crate::pieces::append_read;
+use crate::pieces::append_ready;
+use crate::rows::Writing;
+use crate::rows::append_rows;
+use crate::rows::is_plain;
+use panel::feeding::feed_all;
+use panel::readout::Readout;
+use std::alloc::AllocError;
+use std::alloc::Global;
+
+// The rows of the pens, where some cell has a pen other than 0.
+fn append_pens<P: Readout>(out: &mut Vec<u8>, panel: &P) -> Result<(), AllocError>
+    ensures { λ r. ⌜ made r (λ _. vec-items (now (out .exit)) ≡ vec-items (now (out .entry)) ++ cond (plain (P·Panel .meaning (now (panel .entry)) .surface .picture)) [] (rows-of pen-digit (P·Panel .meaning (now (panel .entry)) .surface))) ⌝ }
+{
+    if is_plain(panel) {
+        return Ok(());
+    }
+    append_rows(out, panel, Writing::Pens)
+}
+
+// What a panel shows after `read` bytes: the picture row by row, the cursor, the pen, and whether a sequence is half read.
+pub fn report<P: Readout>(heap: Global, panel: &P, read: usize) -> Result<Vec<u8>, AllocError>
+    ensures { λ r. ⌜ made r (λ v. (ready : Bool) → Decides ready (P·Panel .meaning (now (panel .entry)) .mode ≡ P·Panel .ready) → vec-items v ≡ reported read (P·Panel .meaning (now (panel .entry)) .surface) ready) ⌝ }
+{
+    let mut out = Vec::new(heap);
+    append_read(&mut out, heap, read)?;
+    append_rows(&mut out, panel, Writing::Codes)?;
+    append_pens(&mut out, panel)?;
+    append_cursor(&mut out, heap, panel.cursor())?;
+    append_pen(&mut out, panel.pen())?;
+    append_ready(&mut out, panel.is_ready())?;
+    Ok(out)
+}
+
+// Feeds some bytes to a panel and reports what it then shows.
+pub fn show<P: Readout>(heap: Global, panel: &mut P, bytes: &[u8]) -> Result<Vec<u8>, AllocError>
+    ensures fed { λ _. ⌜ P·Panel .meaning (now (panel .exit)) ≡ feeds (P·Panel .fed (P·Panel .answers (now (panel .entry)))) (P·Panel .meaning (now (panel .entry))) (now (bytes .entry)) ⌝ }
+    ensures shown { λ r. ⌜ made r (λ v. (ready : Bool) → Decides ready (P·Panel .meaning (now (panel .exit)) .mode ≡ P·Panel .ready) → vec-items v ≡ reported (length (now (bytes .entry))) (P·Panel .meaning (now (panel .exit)) .surface) ready) ⌝ }
+{
+    feed_all(panel, bytes);
+    report(heap, panel, bytes.len())
+}

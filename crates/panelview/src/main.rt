@@ -1,0 +1,82 @@
+// Shows the picture that a stream of bytes leaves on a panel.
+use dec_panel::model::DecPanel;
+use dec_panel::model::panel::DecPanelPanel;
+use dec_panel::model::readout::DecPanelReadout;
+use display::size::Size;
+use std::env;
+use std::error::AnyError;
+use std::io::Read;
+use std::io::Write;
+use view::report::show;
+
+// The longest input, in bytes.
+const LIMIT: usize = 1_048_576;
+
+const USAGE: &str = "usage: panelview [KIND ROWS COLUMNS]: KIND D, ROWS 1 to 24, COLUMNS 2 to 80; without them D 24 80";
+
+// The size that the arguments ask for. The only kind is D.
+fn chosen_size(kind: &str, rows: &str, columns: &str) -> Result<Size, AnyError> {
+    let Ok(rows) = rows.parse::<usize>() else {
+        return Err(USAGE.into());
+    };
+    let Ok(columns) = columns.parse::<usize>() else {
+        return Err(USAGE.into());
+    };
+    match Size::new(rows, columns) {
+        Some(size) if kind == "D" => Ok(size),
+        _ => Err(USAGE.into()),
+    }
+}
+
+fn size_from_arguments(rt: &LibcRuntime) -> Result<Size, AnyError> {
+    let mut words = env::args(rt)?;
+    let _program = words.next();
+    let Some(kind) = words.next() else {
+        return chosen_size("D", "24", "80");
+    };
+    let Some(rows) = words.next() else {
+        return Err(USAGE.into());
+    };
+    let Some(columns) = words.next() else {
+        return Err(USAGE.into());
+    };
+    if words.next().is_some() {
+        return Err(USAGE.into());
+    }
+    chosen_size(kind.as_str(), rows.as_str(), columns.as_str())
+}
+
+// All of standard input, unless it is longer than the limit.
+fn read_input(rt: &LibcRuntime) -> Result<Vec<u8>, AnyError> {
+    let mut input = Vec::new(rt.alloc());
+    let mut stdin = rt.stdin();
+    let mut part = [0u8; 4096];
+    for _ in 0..u64::MAX {
+        let count = stdin.read(&mut part)?;
+        if count == 0 {
+            break;
+        }
+        input.extend_from_slice(&part[0..count])?;
+        if input.len() > LIMIT {
+            return Err("the input is longer than 1048576 bytes".into());
+        }
+    }
+    Ok(input)
+}
+
+fn run(rt: &LibcRuntime) -> Result<(), AnyError> {
+    let size = size_from_arguments(rt)?;
+    let input = read_input(rt)?;
+    let mut panel = DecPanel::new(rt.alloc(), size)?;
+    let text = show(rt.alloc(), &mut panel, input.as_slice())?;
+    rt.stdout().write_all(text.as_slice())?;
+    Ok(())
+}
+
+fn main(rt: LibcRuntime) -> Result<(), AnyError> {
+    let outcome = run(&rt);
+    if let Err(error) = &outcome {
+        eprintln!(rt, "panelview: {error}")?;
+    }
+    outcome
+}
