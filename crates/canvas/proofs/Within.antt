@@ -86,5 +86,5 @@ within-line-fed P s h =
     let row = s .cursor .place .row in
     let below = place-of (row + 1) (s .cursor .place .column) in
     cond-both (ltb (row + 1) (s .size .rows)) (moved s below) (moved (scrolled s) (s .cursor .place)) (Within P)
-      (λ e. within-cursor P s h (resting below) (record { row = ltb-true (row + 1) (s .size .rows) e; column = h .place .column }))
-      (λ e. within-cursor P (scrolled s) (within-scrolled P s h) (resting (s .cursor .place)) (h .place))
+    (λ e. within-cursor P s h (resting below) (record { row = ltb-true (row + 1) (s .size .rows) e; column = h .place .column }))
+    (λ e. within-cursor P (scrolled s) (within-scrolled P s h) (resting (s .cursor .place)) (h .place))

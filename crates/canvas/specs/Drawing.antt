@@ -36,8 +36,8 @@ scrolled s = pictured s (drop (s .size .columns) (s .picture) ++ replicate (s .s
 abbrev pub line-fed : Surface → Surface
 line-fed s =
     cond (ltb (s .cursor .place .row + 1) (s .size .rows))
-      (moved s (place-of (s .cursor .place .row + 1) (s .cursor .place .column)))
-      (moved (scrolled s) (s .cursor .place))
+    (moved s (place-of (s .cursor .place .row + 1) (s .cursor .place .column)))
+    (moved (scrolled s) (s .cursor .place))
 
 abbrev pub cleared : Surface → Surface
 cleared s = pictured s (blanks (s .size))

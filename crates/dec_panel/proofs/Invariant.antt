@@ -40,4 +40,4 @@ pub stays : (p : DecPanel) (b : ℕ) (s : Surface) (r : Reading) → of s r ≡ 
 stays p b s r e =
     let k = kept-fed (p .canvas .size) (meaning-of p) b (kept p) in
     mathlib.Core.Path.subst (λ (m : Meaning Reading). Stays (p .canvas .size) (m .surface)) (sym e)
-      (record { sized = k .sized; pen = k .within .pen; cells = decides-all-printed 16 (fed (meaning-of p) b .surface .picture) .1 (k .within .cells) })
+    (record { sized = k .sized; pen = k .within .pen; cells = decides-all-printed 16 (fed (meaning-of p) b .surface .picture) .1 (k .within .cells) })

@@ -36,12 +36,30 @@ pub(crate) fn lands(size: Size, cursor: Cursor, motion: Motion) -> Option<Place>
         Motion::Return => Some(Place { row, column: 0 }),
         Motion::Address(place) => Some(place),
         _ if cursor.held => None,
-        Motion::Back if column > 0 => Some(Place { row, column: column - 1 }),
-        Motion::Feed if row < size.rows - 1 => Some(Place { row: row + 1, column }),
-        Motion::Up(n) if n <= row => Some(Place { row: row - n, column }),
-        Motion::Down(n) if row as u16 + (n as u16) < size.rows as u16 => Some(Place { row: row + n, column }),
-        Motion::Right(n) if column as u16 + (n as u16) < size.columns as u16 => Some(Place { row, column: column + n }),
-        Motion::Left(n) if n <= column => Some(Place { row, column: column - n }),
+        Motion::Back if column > 0 => Some(Place {
+            row,
+            column: column - 1,
+        }),
+        Motion::Feed if row < size.rows - 1 => Some(Place {
+            row: row + 1,
+            column,
+        }),
+        Motion::Up(n) if n <= row => Some(Place {
+            row: row - n,
+            column,
+        }),
+        Motion::Down(n) if row as u16 + (n as u16) < size.rows as u16 => Some(Place {
+            row: row + n,
+            column,
+        }),
+        Motion::Right(n) if column as u16 + (n as u16) < size.columns as u16 => Some(Place {
+            row,
+            column: column + n,
+        }),
+        Motion::Left(n) if n <= column => Some(Place {
+            row,
+            column: column - n,
+        }),
         _ => None,
     }
 }
@@ -63,8 +81,14 @@ pub(crate) fn after_code(size: Size, place: Place) -> Cursor
 {
     let column = place.column as u16 + 1;
     if column < size.columns as u16 {
-        let next = Place { row: place.row, column: column as u8 };
-        return Cursor { place: next, held: false };
+        let next = Place {
+            row: place.row,
+            column: column as u8,
+        };
+        return Cursor {
+            place: next,
+            held: false,
+        };
     }
     Cursor { place, held: true }
 }

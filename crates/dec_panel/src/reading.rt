@@ -12,7 +12,10 @@ use dec_rules::reading::Parameters;
 pub(crate) fn no_parameter() -> Parameters
     ensures { λ r. ⌜ r ≡ none ⌝ }
 {
-    Parameters { values: [0; 8], at: 0 }
+    Parameters {
+        values: [0; 8],
+        at: 0,
+    }
 }
 
 // A digit joins the parameter being read. A value above 999 counts as 999.

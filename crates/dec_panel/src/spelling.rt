@@ -12,7 +12,19 @@ use display::place::Place;
 use panel::bytes::ShortBytes;
 
 // Sets pen 0, goes to the first place, and blanks all cells.
-const WIPE: [u8; 11] = [0x1B, 0x5B, 0x30, 0x6D, 0x1B, 0x5B, 0x48, 0x1B, 0x5B, 0x32, 0x4A];
+const WIPE: [u8; 11] = [
+    0x1B,
+    0x5B,
+    0x30,
+    0x6D,
+    0x1B,
+    0x5B,
+    0x48,
+    0x1B,
+    0x5B,
+    0x32,
+    0x4A,
+];
 
 // Writes a number in decimal, without leading zeros.
 fn push_decimal(bytes: &mut ShortBytes, n: u16)

@@ -146,11 +146,11 @@ module _ (z : Size) where
         numbered = λ n k past. ap (of-motion None (offered z k)) (numbered-past z n past);
         lands-on = lands-on;
         some-bytes = λ n h. let (m, e, short) = of-number (λ m. Short (spelled m)) n h (spelled-short z) in
-          subst (λ o. 1 ≤ length (of-motion [] spelled o)) (sym e) (short .0);
+            subst (λ o. 1 ≤ length (of-motion [] spelled o)) (sym e) (short .0);
         few-bytes = λ n h. let (m, e, short) = of-number (λ m. Short (spelled m)) n h (spelled-short z) in
-          subst (λ o. length (of-motion [] spelled o) ≤ 16) (sym e) (short .1);
+            subst (λ o. length (of-motion [] spelled o) ≤ 16) (sym e) (short .1);
         short-delay = λ n h. let (m, e, little) = of-number (λ m. takes m ≤ 1000) n h (λ m _. takes-little m) in
-          subst (λ o. of-motion 0 takes o ≤ 1000) (sym e) little;
+            subst (λ o. of-motion 0 takes o ≤ 1000) (sym e) little;
         after-next = λ p on more. cond-true (ltb (p .column + 1) (z .columns)) _ _ (lt-ltb (p .column + 1) (z .columns) more);
         after-on = after-on z;
         few-pen-bytes = λ p _. pen-short p;

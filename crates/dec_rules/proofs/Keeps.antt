@@ -31,8 +31,8 @@ use Rattle.dec_rules.specs.declared.reading.Reading.the-variants.{Ground, Esca
 pub after-on : (z : Size) (p : Place) → On z p → On z (after z p .place)
 after-on z p on =
     cond-both (ltb (p .column + 1) (z .columns)) _ _ (λ (k : Cursor). On z (k .place))
-      (λ e. record { row = on .row; column = ltb-true (p .column + 1) (z .columns) e })
-      (λ _. on)
+    (λ e. record { row = on .row; column = ltb-true (p .column + 1) (z .columns) e })
+    (λ _. on)
 
 pen-after-small : (p v : ℕ) → p < 16 → pen-after p v < 16
 pen-after-small p v h =
@@ -129,8 +129,8 @@ module _ (z : Size) where
   unfolding fed
   kept-fed m b k =
       cond-both (is-code b) _ _ (λ (n : Meaning Reading). Kept z (n .surface))
-        (λ e. kept-coded (m .surface) k (m .mode) b (true-code b e))
-        (λ _. kept-controlled (m .surface) k (m .mode) b)
+      (λ e. kept-coded (m .surface) k (m .mode) b (true-code b e))
+      (λ _. kept-controlled (m .surface) k (m .mode) b)
 
   pub keeps : (m : Meaning Reading) (b : ℕ) → Sound (answers z) m → Sound (answers z) (fed m b)
   keeps m b h = sound-of (fed m b .surface) (fed m b .mode) (kept-fed m b (kept-of m h))

@@ -46,7 +46,7 @@ below P (suc n) all k h = go (cases-eq k n) (below P n (all .0) k)
 inks : (s : Surface) (p : ℕ) → p < 16 → feeds fed (of s Ground) (pen-bytes p) ≡ of (inked s p) Ground
 unfolding fed controlled coded ended
 inks s = below (λ p. feeds fed (of s Ground) (pen-bytes p) ≡ of (inked s p) Ground) 16
-  ((((((((((((((((tt, refl), refl), refl), refl), refl), refl), refl), refl), refl), refl), refl), refl), refl), refl), refl), refl)
+    ((((((((((((((((tt, refl), refl), refl), refl), refl), refl), refl), refl), refl), refl), refl), refl), refl), refl), refl), refl)
 
 wipe-read : (m : Meaning Reading) → feeds fed m wipe ≡ of (moved (cleared (inked (m .surface) 0)) (cut (m .surface .size) 0 0)) Ground
 unfolding fed controlled coded ended
@@ -67,13 +67,14 @@ prints s c free code =
 
 module _ (z : Size) where
   moves : (s : Surface) (n : ℕ) (p : Place) → Sound (answers z) (of s Ground) → of-motion None (offered z (s .cursor)) (numbered z n) ≡ Some p
-    → feeds fed (of s Ground) (of-motion (List.[]) spelled (numbered z n)) ≡ of (moved s p) Ground
+      → feeds fed (of s Ground) (of-motion (List.[]) spelled (numbered z n)) ≡ of (moved s p) Ground
   moves s n p h = go (numbered z n) refl
     where
       kept : Rattle.dec_rules.proofs.Keeps.Kept z s
       kept = kept-of z (of s Ground) h
+
       go : (o : Option Motion) → numbered z n ≡ o → of-motion None (offered z (s .cursor)) o ≡ Some p
-        → feeds fed (of s Ground) (of-motion (List.[]) spelled o) ≡ of (moved s p) Ground
+          → feeds fed (of s Ground) (of-motion (List.[]) spelled o) ≡ of (moved s p) Ground
       go None e offer = let never : _≡_ {A = ℕ} 0 1 = cc in absurd (omega arith)
       go (Some m) e offer =
           let same = sym (kept .sized) in

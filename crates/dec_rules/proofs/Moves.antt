@@ -34,7 +34,7 @@ tested false false q p e = let z : _≡_ {A = ℕ} 0 1 = cc in absurd (omega ari
 
 -- a relative motion does what its letter does with the count
 relative-read : (s : Surface) (n letter : ℕ) (E : ℕ → Surface) → ((ps : Parameters) → fed (of s (Sequence ps)) letter ≡ of (E (first ps)) Ground)
-  → 1 ≤ n → n < 100 → feeds fed (of s Ground) (relative n letter) ≡ of (E n) Ground
+    → 1 ≤ n → n < 100 → feeds fed (of s Ground) (relative n letter) ≡ of (E n) Ground
 relative-read s n letter E does some few =
     let (ps, value, read) = counted s n (letter ∷ []) some few in
     opened s (cond (eqb n 1) [] (decimal n) ++ (letter ∷ [])) ∙ read ∙ does ps ∙ ap (λ k. of (E k) Ground) value
@@ -89,7 +89,7 @@ module _ (s : Surface) where
     arrives r c p h w e = ap (λ t. of t Ground) (goto-is s r c h w ∙ ap (moved s) e)
 
     pub motion-read : (m : Motion) (p : Place) → Good (s .size) m → offered (s .size) (s .cursor) m ≡ Some p
-      → feeds fed (of s Ground) (spelled m) ≡ of (moved s p) Ground
+        → feeds fed (of s Ground) (spelled m) ≡ of (moved s p) Ground
     motion-read Return p g e =
         let here : place-of row 0 ≡ p = cc in
         let wide = s .size .«columns_least» in

@@ -53,7 +53,7 @@ good z n m e = subst (GoodIf z) e (good-if z n)
 
 -- the numbers from 207 on are the addresses of the places
 past-relative : (z : Size) (n : ℕ) → 207 ≤ n
-  → numbered z n ≡ cond (ltb (n - 207) (z .rows * z .columns)) (Some (Address (place-of ((n - 207) / z .columns) ((n - 207) % z .columns)))) None
+    → numbered z n ≡ cond (ltb (n - 207) (z .rows * z .columns)) (Some (Address (place-of ((n - 207) / z .columns) ((n - 207) % z .columns)))) None
 past-relative z n h =
     cond-false (eqb n 0) _ _ (ne-eqb n 0 (omega arith))
     ∙ cond-false (eqb n 1) _ _ (ne-eqb n 1 (omega arith))

@@ -170,15 +170,17 @@ opened s bs = refl
 
 -- a count of a relative motion, left out where it is 1
 pub counted : (s : Surface) (n : ℕ) (bs : List ℕ) → 1 ≤ n → n < 100 →
-  (ps : Parameters) × (first ps ≡ n) × (feeds fed (of s (Sequence none)) (cond (eqb n 1) [] (decimal n) ++ bs) ≡ feeds fed (of s (Sequence ps)) bs)
+    (ps : Parameters) × (first ps ≡ n) × (feeds fed (of s (Sequence none)) (cond (eqb n 1) [] (decimal n) ++ bs) ≡ feeds fed (of s (Sequence ps)) bs)
 counted s n bs some few = go (cases-eq n 1)
   where
     go : (n ≡ 1) ⊎ (n ≡ 1 → ⊥) →
-      (ps : Parameters) × (first ps ≡ n) × (feeds fed (of s (Sequence none)) (cond (eqb n 1) [] (decimal n) ++ bs) ≡ feeds fed (of s (Sequence ps)) bs)
+        (ps : Parameters) × (first ps ≡ n) × (feeds fed (of s (Sequence none)) (cond (eqb n 1) [] (decimal n) ++ bs) ≡ feeds fed (of s (Sequence ps)) bs)
     go (inl one) = (none, sym one, ap (λ ds. feeds fed (of s (Sequence none)) (ds ++ bs)) (cond-true (eqb n 1) [] (decimal n) (eq-eqb n 1 one)))
     go (inr more) =
-        let value : max n 1 ≡ n = omega arith in
-        (valued none n, value,
+        let value : max n 1 ≡ n = omega arith in (
+          valued none n,
+          value,
           ap (λ ds. feeds fed (of s (Sequence none)) (ds ++ bs)) (cond-false (eqb n 1) [] (decimal n) (ne-eqb n 1 more))
-          ∙ feeds-append fed (of s (Sequence none)) (decimal n) bs
-          ∙ ap (λ m. feeds fed m bs) (number-read s none refl (omega arith) (omega arith) n few))
+              ∙ feeds-append fed (of s (Sequence none)) (decimal n) bs
+              ∙ ap (λ m. feeds fed m bs) (number-read s none refl (omega arith) (omega arith) n few),
+        )

@@ -33,7 +33,7 @@ decides-code n = (true-code n, code-true n)
 decides-printed : (P : ℕ) (g : Glyph) → Decides (is-printed P g) (Printed P g)
 decides-printed P g =
     decides-like (is-printed P g) (λ h. record { code = h .0; pen = h .1 }) (λ h. (h .code, h .pen))
-      (decides-and (is-code (g .code)) (ltb (g .pen) P) (decides-code (g .code)) (decides-ltb (g .pen) P))
+    (decides-and (is-code (g .code)) (ltb (g .pen) P) (decides-code (g .code)) (decides-ltb (g .pen) P))
 
 -- the test of a picture says that every cell is a printable code in one of the pens
 pub decides-all-printed : (P : ℕ) (gs : List Glyph) → Decides (all-printed P gs) (All (Printed P) gs)

@@ -28,7 +28,10 @@ impl Size {
         if rows < 1 || rows > 24 || columns < 2 || columns > 80 {
             return None;
         }
-        Some(Size { rows: rows as u8, columns: columns as u8 })
+        Some(Size {
+            rows: rows as u8,
+            columns: columns as u8,
+        })
     }
 
     // How many places there are.
@@ -43,7 +46,10 @@ impl Size {
         ensures { λ r. ⌜ Cases r (On (now (self .entry)) (record { row = row; column = column }) → ⊥) (λ p. (p ≡ record { row = row; column = column }) × On (now (self .entry)) p) ⌝ }
     {
         if row < self.rows as usize && column < self.columns as usize {
-            Some(Place { row: row as u8, column: column as u8 })
+            Some(Place {
+                row: row as u8,
+                column: column as u8,
+            })
         } else {
             None
         }
@@ -65,6 +71,9 @@ impl Size {
             return None;
         }
         let columns = self.columns as usize;
-        Some(Place { row: (number / columns) as u8, column: (number % columns) as u8 })
+        Some(Place {
+            row: (number / columns) as u8,
+            column: (number % columns) as u8,
+        })
     }
 }

@@ -12,7 +12,8 @@ use view::report::show;
 // The longest input, in bytes.
 const LIMIT: usize = 1_048_576;
 
-const USAGE: &str = "usage: panelview [KIND ROWS COLUMNS]: KIND D, ROWS 1 to 24, COLUMNS 2 to 80; without them D 24 80";
+const USAGE: &str =
+    "usage: panelview [KIND ROWS COLUMNS]: KIND D, ROWS 1 to 24, COLUMNS 2 to 80; without them D 24 80";
 
 // The size that the arguments ask for. The only kind is D.
 fn chosen_size(kind: &str, rows: &str, columns: &str) -> Result<Size, AnyError> {

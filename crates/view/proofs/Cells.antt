@@ -28,7 +28,7 @@ cell-within P s w p on = let filled = w .filled in omega (arith, number-below (s
 
 -- one cell more of a row
 pub row-more : (f : Glyph → ℕ) (xs : List Glyph) (from c : ℕ) (d : Glyph) → from + c < length xs
-  → map f (take (c + 1) (drop from xs)) ≡ map f (take c (drop from xs)) ++ (f (getD xs (from + c) d) ∷ [])
+    → map f (take (c + 1) (drop from xs)) ≡ map f (take c (drop from xs)) ++ (f (getD xs (from + c) d) ∷ [])
 row-more f xs from c d h =
     let rest = length-drop from xs in
     ap (map f) (take-more (drop from xs) c d (omega arith))

@@ -46,7 +46,11 @@ fn append_if(out: &mut Vec<u8>, test: bool, bytes: &[u8]) -> Result<(), AllocErr
 }
 
 // Where the cursor stands.
-pub(crate) fn append_cursor(out: &mut Vec<u8>, heap: Global, cursor: Cursor) -> Result<(), AllocError>
+pub(crate) fn append_cursor(
+    out: &mut Vec<u8>,
+    heap: Global,
+    cursor: Cursor,
+) -> Result<(), AllocError>
     ensures { λ r. ⌜ made r (λ _. vec-items (now (out .exit)) ≡ vec-items (now (out .entry)) ++ cursor-line cursor) ⌝ }
 {
     append(out, b"at ")?;

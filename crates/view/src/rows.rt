@@ -29,13 +29,22 @@ fn cell_byte(writing: Writing, glyph: Glyph) -> u8
         Writing::Codes => glyph.code,
         Writing::Pens => {
             let digit = glyph.pen % 16;
-            if digit < 10 { b'0' + digit } else { b'A' - 10 + digit }
+            if digit < 10 {
+                b'0' + digit
+            } else {
+                b'A' - 10 + digit
+            }
         }
     }
 }
 
 // The cell at a place of the panel.
-fn append_cell<P: Readout>(out: &mut Vec<u8>, panel: &P, place: Place, writing: Writing) -> Result<(), AllocError>
+fn append_cell<P: Readout>(
+    out: &mut Vec<u8>,
+    panel: &P,
+    place: Place,
+    writing: Writing,
+) -> Result<(), AllocError>
     requires { ⌜ On (P·Panel .meaning (now panel) .surface .size) place ⌝ }
     ensures { λ r. ⌜ made r (λ _. (d : Cell) → vec-items (now (out .exit)) ≡ vec-items (now (out .entry)) ++ (writes writing (getD (P·Panel .meaning (now (panel .entry)) .surface .picture) (number (P·Panel .meaning (now (panel .entry)) .surface .size) place) d) ∷ [])) ⌝ }
 {
@@ -49,7 +58,12 @@ fn append_cell<P: Readout>(out: &mut Vec<u8>, panel: &P, place: Place, writing: 
 }
 
 // A row of the panel between bars.
-fn append_row<P: Readout>(out: &mut Vec<u8>, panel: &P, row: u8, writing: Writing) -> Result<(), AllocError>
+fn append_row<P: Readout>(
+    out: &mut Vec<u8>,
+    panel: &P,
+    row: u8,
+    writing: Writing,
+) -> Result<(), AllocError>
     requires { ⌜ row < P·Panel .meaning (now panel) .surface .size .rows ⌝ }
     ensures { λ r. ⌜ made r (λ _. vec-items (now (out .exit)) ≡ vec-items (now (out .entry)) ++ barred (row-of (writes writing) (P·Panel .meaning (now (panel .entry)) .surface) row)) ⌝ }
 {
@@ -62,7 +76,11 @@ fn append_row<P: Readout>(out: &mut Vec<u8>, panel: &P, row: u8, writing: Writin
 }
 
 // All rows.
-pub(crate) fn append_rows<P: Readout>(out: &mut Vec<u8>, panel: &P, writing: Writing) -> Result<(), AllocError>
+pub(crate) fn append_rows<P: Readout>(
+    out: &mut Vec<u8>,
+    panel: &P,
+    writing: Writing,
+) -> Result<(), AllocError>
     ensures { λ r. ⌜ made r (λ _. vec-items (now (out .exit)) ≡ vec-items (now (out .entry)) ++ rows-of (writes writing) (P·Panel .meaning (now (panel .entry)) .surface)) ⌝ }
 {
     for row in 0..panel.size().rows {

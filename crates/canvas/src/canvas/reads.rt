@@ -21,8 +21,16 @@ impl Canvas {
         ensures { λ r. ⌜ made r (λ c. surface c ≡ wiped size) ⌝ }
     {
         let cells = vec![in heap; blank_glyph(); size.places()]?;
-        let cursor = Cursor { place: Place { row: 0, column: 0 }, held: false };
-        Ok(Canvas { size, cells, cursor, pen: 0 })
+        let cursor = Cursor {
+            place: Place { row: 0, column: 0 },
+            held: false,
+        };
+        Ok(Canvas {
+            size,
+            cells,
+            cursor,
+            pen: 0,
+        })
     }
 
     pub fn size(&self) -> Size

@@ -37,7 +37,10 @@ impl DecPanel {
         ensures { λ r. ⌜ made r (λ p. meaning-of p ≡ of (wiped size) Ground) ⌝ }
     {
         let canvas = Canvas::new(heap, size)?;
-        Ok(DecPanel { canvas, reading: Reading::Ground })
+        Ok(DecPanel {
+            canvas,
+            reading: Reading::Ground,
+        })
     }
 
     // A control byte, which acts in every reading state. Most do nothing.
@@ -126,7 +129,10 @@ pub impl Panel for DecPanel as DecPanelPanel {
             (Reading::Ground, 0x20..=0x7E) => print(&mut self.canvas, byte),
             (reading @ Reading::Escape, b'[') => *reading = Reading::Sequence(no_parameter()),
             (reading @ Reading::Escape, 0x20..=0x7E) => *reading = Reading::Ground,
-            (Reading::Sequence(parameters), b'0'..=b'9') if parameters.at < 8 => read_digit(parameters, byte - b'0'),
+            (Reading::Sequence(parameters), b'0'..=b'9') if parameters.at < 8 => read_digit(
+                parameters,
+                byte - b'0',
+            ),
             (Reading::Sequence(parameters), b';') if parameters.at < 8 => parameters.at += 1,
             (Reading::Sequence(_), b'0'..=b'9' | b';') => {}
             // intermediates, the colon and the private markers void the sequence

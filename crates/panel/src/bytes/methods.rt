@@ -10,7 +10,10 @@ impl ShortBytes {
     pub fn new() -> ShortBytes
         ensures { λ r. ⌜ bytes-of r ≡ [] ⌝ }
     {
-        ShortBytes { bytes: [0; 16], len: 0 }
+        ShortBytes {
+            bytes: [0; 16],
+            len: 0,
+        }
     }
 
     // One byte more. A seventeenth is dropped.

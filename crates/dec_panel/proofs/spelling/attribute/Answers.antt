@@ -27,4 +27,4 @@ returns-else-pen-bit-ne0 c =
     let bits = bitAnd (c .args .pen) (c .args .bit) in
     let some : List ℕ = 59 ∷ (c .args .digit ∷ []) in
     sym (ap (λ (l : List ℕ). take 16 (was ++ l)) (cond-true (eqb bits 0) [] some (eq-eqb bits 0 (c .if-pen-bit-ne0 .left)))
-      ∙ ap (take 16) (append-nil was) ∙ take-all 16 was (bytes-short (c .args .bytes .now)))
+    ∙ ap (take 16) (append-nil was) ∙ take-all 16 was (bytes-short (c .args .bytes .now)))

@@ -16,6 +16,6 @@ returns g c =
       fixed = c .feed-all .ensures .fixed;
       after = after;
       lands = λ to ready offered.
-        let sound = subst (λ r. Sound a (of s r)) ready (g .P·Panel·met .sound p) in
-        after ∙ ap (λ r. feeds (P .fed a) (of s r) (a .motion-bytes (c .args .motion))) ready ∙ g .P·Panel·met .lawful p .moves s (c .args .motion) to sound offered;
+          let sound = subst (λ r. Sound a (of s r)) ready (g .P·Panel·met .sound p) in
+          after ∙ ap (λ r. feeds (P .fed a) (of s r) (a .motion-bytes (c .args .motion))) ready ∙ g .P·Panel·met .lawful p .moves s (c .args .motion) to sound offered;
     }

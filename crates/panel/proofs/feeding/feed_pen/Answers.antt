@@ -16,6 +16,6 @@ returns g c =
       fixed = c .feed-all .ensures .fixed;
       after = after;
       inks = λ ready known.
-        let sound = subst (λ r. Sound a (of s r)) ready (g .P·Panel·met .sound p) in
-        after ∙ ap (λ r. feeds (P .fed a) (of s r) (a .pen-bytes (c .args .pen))) ready ∙ g .P·Panel·met .lawful p .inks s (c .args .pen) sound known;
+          let sound = subst (λ r. Sound a (of s r)) ready (g .P·Panel·met .sound p) in
+          after ∙ ap (λ r. feeds (P .fed a) (of s r) (a .pen-bytes (c .args .pen))) ready ∙ g .P·Panel·met .lawful p .inks s (c .args .pen) sound known;
     }

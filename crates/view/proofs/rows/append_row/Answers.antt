@@ -26,7 +26,7 @@ loop-column-again g c =
     let on : On (s .size) (place-of (c .args .row) k) = record { row = c .pre; column = subst (λ (z : Size). k < z .columns) same (c .loop-column-test .taken) } in
     let within = cell-within (g .P·Panel .answers p .pens) s (sound .within) (place-of (c .args .row) k) on in
     then-more start (vec-items (c .loop-column .out)) (vec-items (c .append-cell .last .out)) (map f (take k (drop from (s .picture)))) (f (getD (s .picture) (from + k) blank) ∷ [])
-      (c .loop-column .inv) (c .in-Continue-append-cell .ensures tt blank)
+    (c .loop-column .inv) (c .in-Continue-append-cell .ensures tt blank)
     ∙ ap (λ l. start ++ l) (sym (row-more f (s .picture) from k blank within))
 
 pub returns : need.returns

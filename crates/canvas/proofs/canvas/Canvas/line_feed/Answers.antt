@@ -24,7 +24,7 @@ returns-else-self c =
     let w = self .size .columns in
     let fits = row-within (self .size .rows) w (self .size .«rows_least») in
     let long : length (c .scroll-by .last .cells) ≡ self .cells .len =
-      omega (arith, ap length (c .scroll-by .ensures), length-append (drop w cells) (replicate w blank), length-drop w cells, length-replicate w blank) in
+    omega (arith, ap length (c .scroll-by .ensures), length-append (drop w cells) (replicate w blank), length-drop w cells, length-replicate w blank) in
     let here = self .cursor .place in
     ap (λ p. moved (pictured (surface self) p) here) (refilled-is (self .cells) (c .scroll-by .last .cells) long ∙ c .scroll-by .ensures ∙ ap (λ xs. drop w xs ++ replicate w blank) (c .as-mut-slice .ensures .value))
     ∙ sym (cond-false _ _ _ (le-ltb (here .row + 1) (self .size .rows) (c .if-self .left)))

@@ -125,7 +125,7 @@ returns-in-Sequence-48-to-57-2·2 c =
     record {
       fixed = refl;
       after = ap (λ q. of s (Sequence q)) (sym (digit-dropped (a .parameters) (c .args .byte - 48) (c .if-parameters-lt8-2 .left)))
-        ∙ sym (fed-numeral s (a .parameters) (c .args .byte) (omega arith) (omega arith)) ∙ in-state p (Sequence (a .parameters)) (c .args .byte) (a .is-0);
+          ∙ sym (fed-numeral s (a .parameters) (c .args .byte) (omega arith) (omega arith)) ∙ in-state p (Sequence (a .parameters)) (c .args .byte) (a .is-0);
     }
 
 pub returns-in-Sequence-32-to-47 : need.returns-in-Sequence-32-to-47
