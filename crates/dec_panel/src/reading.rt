@@ -102,12 +102,7 @@ pub(crate) fn end_sequence(canvas: &mut Canvas, parameters: &Parameters, end: u8
         b'C' => canvas.move_to(row, column + first),
         b'D' => canvas.move_to(row, column.saturating_sub(first)),
         b'H' => canvas.move_to(first - 1, second - 1),
-        b'J' => {
-            if parameters.values[0] == 2 {
-                canvas.clear();
-                canvas.move_to(row, column);
-            }
-        }
+        b'J' if parameters.values[0] == 2 => canvas.clear(),
         b'm' => {
             let pen = pen_by(canvas.pen(), parameters);
             canvas.set_pen(pen);

@@ -80,12 +80,20 @@ module _ (z : Size) where
           let same = sym (kept .sized) in
           motion-read s (kept .within .place) m p (subst (λ y. Rattle.dec_rules.proofs.Numbers.Good y m) same (good z n m e)) (subst (λ y. offered y (s .cursor) m ≡ Some p) same offer)
 
+  -- a ready meaning, with its reading state written out
+  at-ready : (m : Meaning Reading) → m .mode ≡ Ground → m ≡ of (m .surface) Ground
+  at-ready m e = ap (of (m .surface)) e
+
   pub lawful : Lawful Ground (answers z) fed
   lawful = record {
     bounded = bounded z;
     keeps = keeps z;
-    moves = moves;
-    prints = λ s c h free code _. prints s c free code ∙ ap (λ y. of (at-cursor (drawn s c) (after y (s .cursor .place))) Ground) (kept-of z (of s Ground) h .sized);
-    inks = λ s p _ small. inks s p small;
+    moves = λ m n p h ready offer.
+        ap (λ q. feeds fed q (answers z .motion-bytes n)) (at-ready m ready)
+        ∙ moves (m .surface) n p (subst (Sound (answers z)) (at-ready m ready) h) offer;
+    prints = λ m c h ready free code _.
+        ap (λ q. fed q c) (at-ready m ready) ∙ prints (m .surface) c free code
+        ∙ ap (λ y. of (at-cursor (drawn (m .surface) c) (after y (m .surface .cursor .place))) Ground) (kept-of z m h .sized);
+    inks = λ m p _ ready small. ap (λ q. feeds fed q (pen-bytes p)) (at-ready m ready) ∙ inks (m .surface) p small;
     wipes = λ m h. wipes m ∙ ap (λ y. of (wiped y) Ground) (kept-of z m h .sized);
   }

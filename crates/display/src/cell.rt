@@ -1,10 +1,13 @@
 // Cells: what a picture holds at a place.
 ghost use mathlib.Core.Path.{_≡_};
-ghost use mathlib.Core.Bool.{Bool, true, false};
+ghost use mathlib.Core.Bool.{Bool, true};
 ghost use Prim.Native.Nat.{ℕ};
 ghost use Rattle.std.specs.Orderings.{Decides};
-ghost use Rattle.display.specs.Cell.{Code, Built, glyph-of, blank, plain-admits, attributed-admits};
+ghost use Rattle.display.specs.Cell.{Built, Code};
 ghost use Rattle.display.specs.declared.cell.Glyph.{Glyph};
+
+pub mod attributed;
+pub mod plain;
 
 // What is seen at a place: a printable code, 20h to 7Eh, and the pen that drew it.
 // Pen bits 0 to 3 are bold, underscore, blink and reverse.
@@ -38,67 +41,4 @@ pub trait Cell: Copy {
     // Whether two cells have the same code and the same pen.
     fn same(&self, other: &Self) -> bool
         ensures { λ r. ⌜ Decides r (glyph (now (self .entry)) ≡ glyph (now (other .entry))) ⌝ };
-}
-
-// A cell that admits pen 0 only.
-#[derive(Clone, Copy, Debug)]
-pub struct Plain {
-    code: u8,
-}
-
-pub impl Cell for Plain as PlainCell {
-    ghost glyph = { λ c. glyph-of (c .code) 0 };
-
-    ghost admits = { plain-admits };
-
-    fn build(code: u8, pen: u8) -> Option<Plain> {
-        if code < 0x20 || code > 0x7E || pen != 0 {
-            return None;
-        }
-        Some(Plain { code })
-    }
-
-    fn code(&self) -> u8 {
-        self.code
-    }
-
-    fn pen(&self) -> u8 {
-        0
-    }
-
-    fn same(&self, other: &Plain) -> bool {
-        self.code == other.code
-    }
-}
-
-// A cell that admits every pen.
-#[derive(Clone, Copy, Debug)]
-pub struct Attributed {
-    code: u8,
-    pen: u8,
-}
-
-pub impl Cell for Attributed as AttributedCell {
-    ghost glyph = { λ c. glyph-of (c .code) (c .pen) };
-
-    ghost admits = { attributed-admits };
-
-    fn build(code: u8, pen: u8) -> Option<Attributed> {
-        if code < 0x20 || code > 0x7E || pen > 15 {
-            return None;
-        }
-        Some(Attributed { code, pen })
-    }
-
-    fn code(&self) -> u8 {
-        self.code
-    }
-
-    fn pen(&self) -> u8 {
-        self.pen
-    }
-
-    fn same(&self, other: &Attributed) -> bool {
-        self.code == other.code && self.pen == other.pen
-    }
 }

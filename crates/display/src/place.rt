@@ -57,8 +57,7 @@ impl Size {
 
     // The number of a place: the places of a row have numbers in a row.
     pub fn number(&self, place: Place) -> usize
-        ensures value { λ r. ⌜ r ≡ number (now (self .entry)) place ⌝ }
-        ensures below { λ r. ⌜ (On (now (self .entry)) place → r < now (self .entry) .rows * now (self .entry) .columns) ⌝ }
+        ensures { λ r. ⌜ r ≡ number (now (self .entry)) place ⌝ }
     {
         place.row as usize * self.columns as usize + place.column as usize
     }
@@ -70,10 +69,18 @@ impl Size {
         if number >= self.places() {
             return None;
         }
+        Some(self.split(number))
+    }
+
+    // The row and the column that a number stands for.
+    fn split(&self, number: usize) -> Place
+        requires { ⌜ number < now self .rows * now self .columns ⌝ }
+        ensures { λ r. ⌜ Numbered (now (self .entry)) number r ⌝ }
+    {
         let columns = self.columns as usize;
-        Some(Place {
+        Place {
             row: (number / columns) as u8,
             column: (number % columns) as u8,
-        })
+        }
     }
 }

@@ -1,9 +1,9 @@
 // Sizes, places and cells.
-use display::cell::Attributed;
-use display::cell::AttributedCell;
+use display::cell::attributed::Attributed;
+use display::cell::attributed::AttributedCell;
 use display::cell::Cell;
-use display::cell::Plain;
-use display::cell::PlainCell;
+use display::cell::plain::Plain;
+use display::cell::plain::PlainCell;
 use display::place::Place;
 use display::place::PlaceDebug;
 use display::place::PlacePartialEq;

@@ -24,12 +24,12 @@ pub record Lawful {Mode : Type 0} (ready : Mode) (a : Answers) (f : Meaning Mode
   -- every byte leads from a meaning that the panel can have to another
   pub keeps : (m : Meaning Mode) (b : ℕ) → Sound a m → Sound a (f m b)
   -- a ready panel fed the bytes of a motion that is offered lands where it was told, unheld and ready, and nothing else changes
-  pub moves : (s : Surface) (n : ℕ) (p : Place) → Sound a (of s ready) → a .lands n (s .cursor) ≡ Some p
-      → feeds f (of s ready) (a .motion-bytes n) ≡ of (moved s p) ready
+  pub moves : (m : Meaning Mode) (n : ℕ) (p : Place) → Sound a m → m .mode ≡ ready → a .lands n (m .surface .cursor) ≡ Some p
+      → feeds f m (a .motion-bytes n) ≡ of (moved (m .surface) p) ready
   -- a ready, unheld panel fed a code sets the cell at the cursor and takes the after-state, and nothing else changes
-  pub prints : (s : Surface) (c : ℕ) → Sound a (of s ready) → s .cursor .held ≡ false → Code c → Open a s
-      → f (of s ready) c ≡ of (at-cursor (drawn s c) (a .after (s .cursor .place))) ready
+  pub prints : (m : Meaning Mode) (c : ℕ) → Sound a m → m .mode ≡ ready → m .surface .cursor .held ≡ false → Code c → Open a (m .surface)
+      → f m c ≡ of (at-cursor (drawn (m .surface) c) (a .after (m .surface .cursor .place))) ready
   -- a ready panel fed the bytes of a pen sets that pen, and nothing else changes
-  pub inks : (s : Surface) (p : ℕ) → Sound a (of s ready) → p < a .pens → feeds f (of s ready) (a .pen-bytes p) ≡ of (inked s p) ready
+  pub inks : (m : Meaning Mode) (p : ℕ) → Sound a m → m .mode ≡ ready → p < a .pens → feeds f m (a .pen-bytes p) ≡ of (inked (m .surface) p) ready
   -- from every meaning the wipe bytes give the same one
   pub wipes : (m : Meaning Mode) → Sound a m → feeds f m (a .wipe) ≡ of (wiped (a .size)) ready

@@ -2,6 +2,7 @@
 ghost use mathlib.Core.Path.{_≡_};
 ghost use mathlib.Core.Bool.{false};
 ghost use Prim.Native.Nat.{_<_};
+ghost use lib.ListN.{length};
 ghost use Rattle.std.specs.declared.option.Option.the-variants.{Some};
 ghost use Rattle.display.specs.Cell.{Code};
 ghost use Rattle.display.specs.Surface.{at-cursor, drawn, inked, moved, wiped};
@@ -10,8 +11,17 @@ ghost use Rattle.panel.specs.Lawful.{Open};
 ghost use Rattle.panel.specs.Meaning.{feeds, of};
 use crate::panel::Panel;
 
-// Feeds some bytes, one by one.
-pub fn feed_all<P: Panel>(panel: &mut P, bytes: &[u8])
+// Feeds some bytes and tells how many they were.
+pub fn feed_all<P: Panel>(panel: &mut P, bytes: &[u8]) -> usize
+    ensures count { λ r. ⌜ r ≡ length (now (bytes .entry)) ⌝ }
+    ensures fixed { λ _. ⌜ answers (now (panel .exit)) ≡ answers (now (panel .entry)) ⌝ }
+    ensures after { λ _. ⌜ meaning (now (panel .exit)) ≡ feeds (fed (answers (now (panel .entry)))) (meaning (now (panel .entry))) (now (bytes .entry)) ⌝ }
+{
+    feed_each(panel, bytes);
+    bytes.len()
+}
+
+fn feed_each<P: Panel>(panel: &mut P, bytes: &[u8])
     ensures fixed { λ _. ⌜ answers (now (panel .exit)) ≡ answers (now (panel .entry)) ⌝ }
     ensures after { λ _. ⌜ meaning (now (panel .exit)) ≡ feeds (fed (answers (now (panel .entry)))) (meaning (now (panel .entry))) (now (bytes .entry)) ⌝ }
 {
@@ -27,7 +37,17 @@ pub fn feed_motion<P: Panel>(panel: &mut P, motion: u16)
     ensures lands { λ _. ⌜ ((p : At) → meaning (now (panel .entry)) .mode ≡ ready → answers (now (panel .entry)) .lands motion (meaning (now (panel .entry)) .surface .cursor) ≡ Some p → meaning (now (panel .exit)) ≡ of (moved (meaning (now (panel .entry)) .surface) p) ready) ⌝ }
 {
     let bytes = panel.motion_bytes(motion);
-    feed_all(panel, bytes.as_slice());
+    feed_landing(panel, motion, bytes.as_slice());
+}
+
+// Feeds bytes that are those of a motion.
+fn feed_landing<P: Panel>(panel: &mut P, motion: u16, sent: &[u8])
+    requires { ⌜ now sent ≡ answers (now panel) .motion-bytes motion ⌝ }
+    ensures fixed { λ _. ⌜ answers (now (panel .exit)) ≡ answers (now (panel .entry)) ⌝ }
+    ensures after { λ _. ⌜ meaning (now (panel .exit)) ≡ feeds (fed (answers (now (panel .entry)))) (meaning (now (panel .entry))) (answers (now (panel .entry)) .motion-bytes motion) ⌝ }
+    ensures lands { λ _. ⌜ ((p : At) → meaning (now (panel .entry)) .mode ≡ ready → answers (now (panel .entry)) .lands motion (meaning (now (panel .entry)) .surface .cursor) ≡ Some p → meaning (now (panel .exit)) ≡ of (moved (meaning (now (panel .entry)) .surface) p) ready) ⌝ }
+{
+    feed_each(panel, sent);
 }
 
 // Feeds a code. A ready, unheld panel sets the cell at the cursor and takes the after-state.
@@ -46,7 +66,7 @@ pub fn feed_pen<P: Panel>(panel: &mut P, pen: u8)
     ensures inks { λ _. ⌜ (meaning (now (panel .entry)) .mode ≡ ready → pen < answers (now (panel .entry)) .pens → meaning (now (panel .exit)) ≡ of (inked (meaning (now (panel .entry)) .surface) pen) ready) ⌝ }
 {
     let bytes = panel.pen_bytes(pen);
-    feed_all(panel, bytes.as_slice());
+    feed_each(panel, bytes.as_slice());
 }
 
 // Feeds the wipe bytes, which give one meaning whatever came before: all blanks, the first place, unheld, pen 0, ready.
@@ -55,5 +75,5 @@ pub fn feed_wipe<P: Panel>(panel: &mut P)
     ensures wipes { λ _. ⌜ meaning (now (panel .exit)) ≡ of (wiped (answers (now (panel .entry)) .size)) ready ⌝ }
 {
     let bytes = panel.wipe_bytes();
-    feed_all(panel, bytes.as_slice());
+    feed_each(panel, bytes.as_slice());
 }

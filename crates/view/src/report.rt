@@ -30,17 +30,30 @@ fn append_pens<P: Readout>(out: &mut Vec<u8>, panel: &P) -> Result<(), AllocErro
     append_rows(out, panel, Writing::Pens)
 }
 
+// The lines of a report, one after the other.
+fn append_report<P: Readout>(
+    out: &mut Vec<u8>,
+    heap: Global,
+    panel: &P,
+    read: usize,
+) -> Result<(), AllocError>
+    ensures { λ r. ⌜ made r (λ _. (ready : Bool) → Decides ready (P·Panel .meaning (now (panel .entry)) .mode ≡ P·Panel .ready) → vec-items (now (out .exit)) ≡ vec-items (now (out .entry)) ++ reported read (P·Panel .meaning (now (panel .entry)) .surface) ready) ⌝ }
+{
+    append_read(out, heap, read)?;
+    append_rows(out, panel, Writing::Codes)?;
+    append_pens(out, panel)?;
+    append_cursor(out, heap, panel.cursor())?;
+    append_pen(out, panel.pen())?;
+    append_ready(out, panel.is_ready())?;
+    Ok(())
+}
+
 // What a panel shows after `read` bytes: the picture row by row, the cursor, the pen, and whether a sequence is half read.
 pub fn report<P: Readout>(heap: Global, panel: &P, read: usize) -> Result<Vec<u8>, AllocError>
     ensures { λ r. ⌜ made r (λ v. (ready : Bool) → Decides ready (P·Panel .meaning (now (panel .entry)) .mode ≡ P·Panel .ready) → vec-items v ≡ reported read (P·Panel .meaning (now (panel .entry)) .surface) ready) ⌝ }
 {
     let mut out = Vec::new(heap);
-    append_read(&mut out, heap, read)?;
-    append_rows(&mut out, panel, Writing::Codes)?;
-    append_pens(&mut out, panel)?;
-    append_cursor(&mut out, heap, panel.cursor())?;
-    append_pen(&mut out, panel.pen())?;
-    append_ready(&mut out, panel.is_ready())?;
+    append_report(&mut out, heap, panel, read)?;
     Ok(out)
 }
 
@@ -49,6 +62,6 @@ pub fn show<P: Readout>(heap: Global, panel: &mut P, bytes: &[u8]) -> Result<Vec
     ensures fed { λ _. ⌜ P·Panel .meaning (now (panel .exit)) ≡ feeds (P·Panel .fed (P·Panel .answers (now (panel .entry)))) (P·Panel .meaning (now (panel .entry))) (now (bytes .entry)) ⌝ }
     ensures shown { λ r. ⌜ made r (λ v. (ready : Bool) → Decides ready (P·Panel .meaning (now (panel .exit)) .mode ≡ P·Panel .ready) → vec-items v ≡ reported (length (now (bytes .entry))) (P·Panel .meaning (now (panel .exit)) .surface) ready) ⌝ }
 {
-    feed_all(panel, bytes);
-    report(heap, panel, bytes.len())
+    let read = feed_all(panel, bytes);
+    report(heap, panel, read)
 }

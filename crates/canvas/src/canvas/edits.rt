@@ -1,11 +1,12 @@
 // What is done to a canvas.
 ghost use mathlib.Core.Path.{_≡_};
-ghost use Rattle.display.specs.Surface.{drawn, inked};
-ghost use Rattle.canvas.specs.Drawing.{surface, goto, holding, line-fed, cleared};
+ghost use Rattle.display.specs.Surface.{drawn, inked, moved};
+ghost use Rattle.canvas.specs.Drawing.{cleared, goto, holding, line-fed, scrolled, surface};
 use super::Canvas;
 use crate::blanks::blank_from;
 use crate::blanks::scroll_by;
 use display::cell::Glyph;
+use display::place::Cursor;
 use display::place::Place;
 
 impl Canvas {
@@ -33,7 +34,7 @@ impl Canvas {
         ensures { λ _. ⌜ surface (now (self .exit)) ≡ drawn (surface (now (self .entry))) code ⌝ }
     {
         let pen = self.pen;
-        let at = self.size.number(self.cursor.place);
+        let at = self.index_of(self.cursor.place);
         self.cells[at] = Glyph { code, pen };
     }
 
@@ -45,13 +46,28 @@ impl Canvas {
         if self.cursor.place.row + 1 < self.size.rows {
             self.cursor.place.row += 1;
         } else {
-            let columns = self.size.columns as usize;
-            scroll_by(self.cells.as_mut_slice(), columns);
+            self.scroll();
         }
     }
 
-    // Blanks every cell.
+    // Moves the picture up a row. The last row is then blank.
+    fn scroll(&mut self)
+        ensures { λ _. ⌜ surface (now (self .exit)) ≡ scrolled (surface (now (self .entry))) ⌝ }
+    {
+        let columns = self.size.columns as usize;
+        scroll_by(self.cells.as_mut_slice(), columns);
+    }
+
+    // Blanks every cell and leaves the cursor where it stands, unheld.
     pub fn clear(&mut self)
+        ensures { λ _. ⌜ surface (now (self .exit)) ≡ moved (cleared (surface (now (self .entry)))) (surface (now (self .entry)) .cursor .place) ⌝ }
+    {
+        self.blank_cells();
+        let place = self.cursor.place;
+        self.cursor = Cursor { place, held: false };
+    }
+
+    fn blank_cells(&mut self)
         ensures { λ _. ⌜ surface (now (self .exit)) ≡ cleared (surface (now (self .entry))) ⌝ }
     {
         blank_from(self.cells.as_mut_slice(), 0);

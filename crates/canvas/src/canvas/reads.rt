@@ -1,6 +1,8 @@
 // What a canvas tells.
 ghost use mathlib.Core.Path.{_≡_};
+ghost use Prim.Native.Nat.{_<_};
 ghost use lib.ListN.{getD};
+ghost use Rattle.std.specs.Of.Vec.{vec-len};
 ghost use Rattle.std.specs.Options.{Cases};
 ghost use Rattle.std.specs.Vec.{made};
 ghost use Rattle.display.specs.Place.{On, number};
@@ -55,10 +57,21 @@ impl Canvas {
     pub fn glyph(&self, place: Place) -> Option<Glyph>
         ensures { λ r. ⌜ Cases r (On (now (self .entry) .size) place → ⊥) (λ g. g ≡ getD (surface (now (self .entry)) .picture) (number (now (self .entry) .size) place) g) ⌝ }
     {
-        if place.row >= self.size.rows || place.column >= self.size.columns {
+        let Canvas { size, cells, .. } = self;
+        if place.row >= size.rows || place.column >= size.columns {
             return None;
         }
-        let at = self.size.number(place);
-        Some(self.cells[at])
+        let at = self.index_of(place);
+        Some(cells[at])
+    }
+
+    // Where the cell of a place stands in the picture.
+    pub(super) fn index_of(&self, place: Place) -> usize
+        requires { ⌜ On (now self .size) place ⌝ }
+        ensures value { λ r. ⌜ r ≡ number (now (self .entry) .size) place ⌝ }
+        ensures within { λ r. ⌜ r < vec-len (now (self .entry) .cells) ⌝ }
+    {
+        let size = self.size;
+        size.number(place)
     }
 }

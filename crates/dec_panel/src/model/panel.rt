@@ -87,11 +87,11 @@ pub impl Panel for DecPanel as DecPanelPanel {
     }
 
     fn motions(&self) -> u16 {
-        207 + self.canvas.size().places() as u16
+        207 + self.size().places() as u16
     }
 
     fn landing(&self, motion: u16, cursor: Cursor) -> Option<Place> {
-        let size = self.canvas.size();
+        let size = self.size();
         match with_number(size, motion) {
             Some(motion) => lands(size, cursor, motion),
             None => None,
@@ -99,21 +99,21 @@ pub impl Panel for DecPanel as DecPanelPanel {
     }
 
     fn motion_bytes(&self, motion: u16) -> ShortBytes {
-        match with_number(self.canvas.size(), motion) {
+        match with_number(self.size(), motion) {
             Some(motion) => of_motion(motion),
             None => ShortBytes::new(),
         }
     }
 
     fn delay(&self, motion: u16) -> u16 {
-        match with_number(self.canvas.size(), motion) {
+        match with_number(self.size(), motion) {
             Some(motion) => milliseconds(motion),
             None => 0,
         }
     }
 
     fn after_print(&self, place: Place) -> Cursor {
-        after_code(self.canvas.size(), place)
+        after_code(self.size(), place)
     }
 
     fn pen_bytes(&self, pen: u8) -> ShortBytes {

@@ -20,10 +20,7 @@ impl ShortBytes {
     pub fn push(&mut self, byte: u8)
         ensures { λ _. ⌜ bytes-of (now (self .exit)) ≡ take 16 (bytes-of (now (self .entry)) ++ (byte ∷ [])) ⌝ }
     {
-        if self.len < 16 {
-            self.bytes[self.len] = byte;
-            self.len += 1;
-        }
+        self.append(&[byte]);
     }
 
     // The first sixteen of some bytes.
@@ -31,10 +28,26 @@ impl ShortBytes {
         ensures { λ r. ⌜ bytes-of r ≡ take 16 (now (bytes .entry)) ⌝ }
     {
         let mut short = ShortBytes::new();
-        for byte in bytes {
-            short.push(*byte);
-        }
+        short.append(bytes);
         short
+    }
+
+    // More bytes, as far as there is room.
+    fn append(&mut self, bytes: &[u8])
+        ensures { λ _. ⌜ bytes-of (now (self .exit)) ≡ take 16 (bytes-of (now (self .entry)) ++ now (bytes .entry)) ⌝ }
+    {
+        for byte in bytes {
+            self.append_one(*byte);
+        }
+    }
+
+    fn append_one(&mut self, byte: u8)
+        ensures { λ _. ⌜ bytes-of (now (self .exit)) ≡ take 16 (bytes-of (now (self .entry)) ++ (byte ∷ [])) ⌝ }
+    {
+        if self.len < 16 {
+            self.bytes[self.len] = byte;
+            self.len += 1;
+        }
     }
 
     pub fn as_slice(&self) -> &[u8]

@@ -2,10 +2,9 @@
 use mathlib.Core.Path.{_≡_, ap, ap₂, _∙_, sym}
 use Prim.Native.Nat.{ℕ, _+_, _-_}
 use native.Mathlib.Omega.{arith}
-use Rattle.display.specs.Surface.{Surface, inked, moved, pictured}
+use Rattle.display.specs.Surface.{inked}
 use Rattle.display.specs.declared.place.Cursor.{Cursor}
-use Rattle.canvas.specs.Drawing.{cleared, goto, surface}
-use Rattle.canvas.proofs.Within.{goto-is}
+use Rattle.canvas.specs.Drawing.{goto, surface}
 use Rattle.dec_rules.specs.Reading.{ended, first, pen-by, second}
 use Rattle.dec_rules.proofs.Ends.{ended-clear, ended-down, ended-home, ended-keep, ended-left, ended-other, ended-pen, ended-right, ended-up}
 use Rattle.dec_panel.proofs.reading.end_sequence.Needs as need
@@ -51,17 +50,11 @@ returns-in-72 c =
     let k = c .cursor .ensures in
     c .move-to-in-72 .ensures ∙ ap₂ (goto s) (ap (λ n. n - 1) (c .max-first .ensures)) (ap (λ n. n - 1) (c .max-second .ensures)) ∙ sym (ap (ended s ps) (c .in-72 .is) ∙ ended-home s ps)
 
-pub returns-then-parameters-eq2 : need.returns-then-parameters-eq2
-returns-then-parameters-eq2 c =
-    let canvas = c .args .canvas .now in
-    let s = surface canvas in
+pub returns-in-74 : need.returns-in-74
+returns-in-74 c =
+    let s = surface (c .args .canvas .now) in
     let ps = c .args .parameters .now in
-    let k = c .cursor .ensures in
-    c .move-to-then-parameters-eq2 .ensures
-    ∙ ap (λ (t : Surface). goto t (row-of (c .cursor .result)) (column-of (c .cursor .result))) (c .clear .ensures)
-    ∙ ap (λ (j : Cursor). goto (cleared s) (row-of j) (column-of j)) k
-    ∙ goto-is (cleared s) (row-of (s .cursor)) (column-of (s .cursor)) (canvas .«row_on») (canvas .«column_on»)
-    ∙ sym (ap (ended s ps) (c .in-74 .is) ∙ ended-clear s ps (c .if-parameters-eq2 .taken))
+    c .clear .ensures ∙ sym (ap (ended s ps) (c .in-74 .is) ∙ ended-clear s ps (c .if-parameters-eq2 .taken))
 
 pub returns-else-parameters-eq2 : need.returns-else-parameters-eq2
 returns-else-parameters-eq2 c =
@@ -75,8 +68,8 @@ returns-in-109 c =
     let ps = c .args .parameters .now in
     c .set-pen .ensures ∙ ap (inked s) (c .pen-by-pen .ensures ∙ ap (λ p. pen-by p ps) (c .pen .ensures)) ∙ sym (ap (ended s ps) (c .in-109 .is) ∙ ended-pen s ps)
 
-pub returns-in-rest : need.returns-in-rest
-returns-in-rest c =
+pub returns : need.returns
+returns c =
     let s = surface (c .args .canvas .now) in
     let ps = c .args .parameters .now in
     sym (ended-other s ps (c .args .end) (omega arith) (omega arith) (omega arith) (omega arith) (omega arith) (omega arith) (omega arith))
