@@ -1,7 +1,7 @@
 // Sizes, places and cells.
+use display::cell::Cell;
 use display::cell::attributed::Attributed;
 use display::cell::attributed::AttributedCell;
-use display::cell::Cell;
 use display::cell::plain::Plain;
 use display::cell::plain::PlainCell;
 use display::place::Place;
