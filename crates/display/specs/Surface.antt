@@ -8,13 +8,16 @@
 --     moved s p      s with the cursor at p, unheld
 --     inked s p      s with pen p set
 --     wiped z        all blanks, place (0, 0), unheld, pen 0
+--     Told s p o     what is told of the cell at p: its glyph, or that there is no such place
 --     Within P s     s is one that a panel with P pens can have
 use mathlib.Core.Path.{_≡_}
 use mathlib.Core.Bool.{Bool, true, false, _&&_}
 use mathlib.Core.List.{List, [], _∷_}
 use Prim.Native.Nat.{ℕ, _-_, _*_, _<_}
 use lib.Dec.{ltb}
-use lib.ListN.{length, set, replicate}
+use lib.ListN.{getD, length, replicate, set}
+use Rattle.std.specs.declared.option.Option.{Option}
+use Rattle.std.specs.declared.option.Option.the-variants.{Some, None}
 use Rattle.std.specs.shelf.Lists.{All}
 use Rattle.display.specs.Cell.{Code, blank, glyph-of, is-code}
 use Rattle.display.specs.Place.{On, number}
@@ -77,3 +80,7 @@ pub record Within (P : ℕ) (s : Surface) : Type 0 where
   pub cells : All (Printed P) (s .picture)
   pub place : On (s .size) (s .cursor .place)
   pub pen : s .pen < P
+
+abbrev pub Told : Surface → Place → Option Glyph → Type 0
+Told s p None = On (s .size) p → ⊥
+Told s p (Some g) = On (s .size) p × (g ≡ getD (s .picture) (number (s .size) p) g)

@@ -1,9 +1,7 @@
 // What a model of a panel tells besides, and a real panel never does.
 ghost use mathlib.Core.Path.{_≡_};
-ghost use lib.ListN.{getD};
-ghost use Rattle.std.specs.Options.{Cases};
 ghost use Rattle.std.specs.Orderings.{Decides};
-ghost use Rattle.display.specs.Place.{On, number};
+ghost use Rattle.display.specs.Surface.{Told};
 use crate::panel::Panel;
 use display::cell::Glyph;
 use display::place::Cursor;
@@ -12,7 +10,7 @@ use display::place::Place;
 pub trait Readout: Panel {
     // The glyph at a place, or nothing where there is no such place.
     fn glyph(&self, place: Place) -> Option<Glyph>
-        ensures { λ r. ⌜ Cases r (On (Self·Panel .meaning (now (self .entry)) .surface .size) place → ⊥) (λ g. g ≡ getD (Self·Panel .meaning (now (self .entry)) .surface .picture) (number (Self·Panel .meaning (now (self .entry)) .surface .size) place) g) ⌝ };
+        ensures { λ r. ⌜ Told (Self·Panel .meaning (now (self .entry)) .surface) place r ⌝ };
 
     fn cursor(&self) -> Cursor
         ensures { λ r. ⌜ r ≡ Self·Panel .meaning (now (self .entry)) .surface .cursor ⌝ };

@@ -7,6 +7,7 @@ use std::env;
 use std::error::AnyError;
 use std::io::Read;
 use std::io::Write;
+use view::arguments::asked_size;
 use view::report::show;
 
 // The longest input, in bytes.
@@ -15,25 +16,12 @@ const LIMIT: usize = 1_048_576;
 const USAGE: &str =
     "usage: panelview [KIND ROWS COLUMNS]: KIND D, ROWS 1 to 24, COLUMNS 2 to 80; without them D 24 80";
 
-// The size that the arguments ask for. The only kind is D.
-fn chosen_size(kind: &str, rows: &str, columns: &str) -> Result<Size, AnyError> {
-    let Ok(rows) = rows.parse::<usize>() else {
-        return Err(USAGE.into());
-    };
-    let Ok(columns) = columns.parse::<usize>() else {
-        return Err(USAGE.into());
-    };
-    match Size::new(rows, columns) {
-        Some(size) if kind == "D" => Ok(size),
-        _ => Err(USAGE.into()),
-    }
-}
-
+// The size that the arguments ask for.
 fn size_from_arguments(rt: &LibcRuntime) -> Result<Size, AnyError> {
     let mut words = env::args(rt)?;
     let _program = words.next();
     let Some(kind) = words.next() else {
-        return chosen_size("D", "24", "80");
+        return usable(asked_size("D", "24", "80"));
     };
     let Some(rows) = words.next() else {
         return Err(USAGE.into());
@@ -44,7 +32,14 @@ fn size_from_arguments(rt: &LibcRuntime) -> Result<Size, AnyError> {
     if words.next().is_some() {
         return Err(USAGE.into());
     }
-    chosen_size(kind.as_str(), rows.as_str(), columns.as_str())
+    usable(asked_size(kind.as_str(), rows.as_str(), columns.as_str()))
+}
+
+fn usable(size: Option<Size>) -> Result<Size, AnyError> {
+    match size {
+        Some(size) => Ok(size),
+        None => Err(USAGE.into()),
+    }
 }
 
 // All of standard input, unless it is longer than the limit.

@@ -1,4 +1,5 @@
 // What a person is shown of a panel, as text.
+pub mod arguments;
 mod pieces;
 pub mod report;
 mod rows;

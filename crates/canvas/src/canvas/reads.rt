@@ -1,12 +1,10 @@
 // What a canvas tells.
 ghost use mathlib.Core.Path.{_≡_};
 ghost use Prim.Native.Nat.{_<_};
-ghost use lib.ListN.{getD};
 ghost use Rattle.std.specs.Of.Vec.{vec-len};
-ghost use Rattle.std.specs.Options.{Cases};
 ghost use Rattle.std.specs.Vec.{made};
 ghost use Rattle.display.specs.Place.{On, number};
-ghost use Rattle.display.specs.Surface.{wiped};
+ghost use Rattle.display.specs.Surface.{Told, wiped};
 ghost use Rattle.canvas.specs.Drawing.{surface};
 use super::Canvas;
 use crate::blanks::blank_glyph;
@@ -53,9 +51,9 @@ impl Canvas {
         self.pen
     }
 
-    // The glyph at a place of the canvas.
+    // The glyph at a place, or nothing where there is no such place.
     pub fn glyph(&self, place: Place) -> Option<Glyph>
-        ensures { λ r. ⌜ Cases r (On (now (self .entry) .size) place → ⊥) (λ g. g ≡ getD (surface (now (self .entry)) .picture) (number (now (self .entry) .size) place) g) ⌝ }
+        ensures { λ r. ⌜ Told (surface (now (self .entry))) place r ⌝ }
     {
         let Canvas { size, cells, .. } = self;
         if place.row >= size.rows || place.column >= size.columns {
