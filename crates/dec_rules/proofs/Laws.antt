@@ -88,7 +88,7 @@ module _ (z : Size) where
   lawful = record {
     bounded = bounded z;
     keeps = keeps z;
-    moves = λ m n p h ready offer.
+    moves = λ m n h p ready offer.
         ap (λ q. feeds fed q (answers z .motion-bytes n)) (at-ready m ready)
         ∙ moves (m .surface) n p (subst (Sound (answers z)) (at-ready m ready) h) offer;
     prints = λ m c h ready free code _.

@@ -1,13 +1,8 @@
 // Feeding whole byte strings, and what the laws give of them.
 ghost use mathlib.Core.Path.{_≡_};
-ghost use mathlib.Core.Bool.{false};
-ghost use Prim.Native.Nat.{_<_};
 ghost use lib.ListN.{length};
-ghost use Rattle.std.specs.declared.option.Option.the-variants.{Some};
-ghost use Rattle.display.specs.Cell.{Code};
-ghost use Rattle.display.specs.Surface.{at-cursor, drawn, inked, moved, wiped};
-ghost use Rattle.display.specs.declared.place.Place.{Place as At};
-ghost use Rattle.panel.specs.Lawful.{Open};
+ghost use Rattle.display.specs.Surface.{wiped};
+ghost use Rattle.panel.specs.Lawful.{Inks, Lands, Prints};
 ghost use Rattle.panel.specs.Meaning.{feeds, of};
 use crate::panel::Panel;
 
@@ -34,7 +29,7 @@ fn feed_each<P: Panel>(panel: &mut P, bytes: &[u8])
 pub fn feed_motion<P: Panel>(panel: &mut P, motion: u16)
     ensures fixed { λ _. ⌜ answers (now (panel .exit)) ≡ answers (now (panel .entry)) ⌝ }
     ensures after { λ _. ⌜ meaning (now (panel .exit)) ≡ feeds (fed (answers (now (panel .entry)))) (meaning (now (panel .entry))) (answers (now (panel .entry)) .motion-bytes motion) ⌝ }
-    ensures lands { λ _. ⌜ ((p : At) → meaning (now (panel .entry)) .mode ≡ ready → answers (now (panel .entry)) .lands motion (meaning (now (panel .entry)) .surface .cursor) ≡ Some p → meaning (now (panel .exit)) ≡ of (moved (meaning (now (panel .entry)) .surface) p) ready) ⌝ }
+    ensures lands { λ _. ⌜ Lands ready (answers (now (panel .entry))) (meaning (now (panel .entry))) motion (meaning (now (panel .exit))) ⌝ }
 {
     let bytes = panel.motion_bytes(motion);
     feed_landing(panel, motion, bytes.as_slice());
@@ -45,7 +40,7 @@ fn feed_landing<P: Panel>(panel: &mut P, motion: u16, sent: &[u8])
     requires { ⌜ now sent ≡ answers (now panel) .motion-bytes motion ⌝ }
     ensures fixed { λ _. ⌜ answers (now (panel .exit)) ≡ answers (now (panel .entry)) ⌝ }
     ensures after { λ _. ⌜ meaning (now (panel .exit)) ≡ feeds (fed (answers (now (panel .entry)))) (meaning (now (panel .entry))) (answers (now (panel .entry)) .motion-bytes motion) ⌝ }
-    ensures lands { λ _. ⌜ ((p : At) → meaning (now (panel .entry)) .mode ≡ ready → answers (now (panel .entry)) .lands motion (meaning (now (panel .entry)) .surface .cursor) ≡ Some p → meaning (now (panel .exit)) ≡ of (moved (meaning (now (panel .entry)) .surface) p) ready) ⌝ }
+    ensures lands { λ _. ⌜ Lands ready (answers (now (panel .entry))) (meaning (now (panel .entry))) motion (meaning (now (panel .exit))) ⌝ }
 {
     feed_each(panel, sent);
 }
@@ -54,7 +49,7 @@ fn feed_landing<P: Panel>(panel: &mut P, motion: u16, sent: &[u8])
 pub fn feed_code<P: Panel>(panel: &mut P, code: u8)
     ensures fixed { λ _. ⌜ answers (now (panel .exit)) ≡ answers (now (panel .entry)) ⌝ }
     ensures after { λ _. ⌜ meaning (now (panel .exit)) ≡ fed (answers (now (panel .entry))) (meaning (now (panel .entry))) code ⌝ }
-    ensures prints { λ _. ⌜ (meaning (now (panel .entry)) .mode ≡ ready → meaning (now (panel .entry)) .surface .cursor .held ≡ false → Code code → Open (answers (now (panel .entry))) (meaning (now (panel .entry)) .surface) → meaning (now (panel .exit)) ≡ of (at-cursor (drawn (meaning (now (panel .entry)) .surface) code) (answers (now (panel .entry)) .after (meaning (now (panel .entry)) .surface .cursor .place))) ready) ⌝ }
+    ensures prints { λ _. ⌜ Prints ready (answers (now (panel .entry))) (meaning (now (panel .entry))) code (meaning (now (panel .exit))) ⌝ }
 {
     panel.feed(code);
 }
@@ -63,7 +58,7 @@ pub fn feed_code<P: Panel>(panel: &mut P, code: u8)
 pub fn feed_pen<P: Panel>(panel: &mut P, pen: u8)
     ensures fixed { λ _. ⌜ answers (now (panel .exit)) ≡ answers (now (panel .entry)) ⌝ }
     ensures after { λ _. ⌜ meaning (now (panel .exit)) ≡ feeds (fed (answers (now (panel .entry)))) (meaning (now (panel .entry))) (answers (now (panel .entry)) .pen-bytes pen) ⌝ }
-    ensures inks { λ _. ⌜ (meaning (now (panel .entry)) .mode ≡ ready → pen < answers (now (panel .entry)) .pens → meaning (now (panel .exit)) ≡ of (inked (meaning (now (panel .entry)) .surface) pen) ready) ⌝ }
+    ensures inks { λ _. ⌜ Inks ready (answers (now (panel .entry))) (meaning (now (panel .entry))) pen (meaning (now (panel .exit))) ⌝ }
 {
     let bytes = panel.pen_bytes(pen);
     feed_each(panel, bytes.as_slice());

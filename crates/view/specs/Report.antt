@@ -8,6 +8,8 @@
 --     cursor-line k      where the cursor stands
 --     pen-line p         the words of the pen
 --     reported n s b     the whole report: n bytes were read, the surface is s, and b says whether the panel is ready
+--     Reports r m n bs   bs is the report on a panel that means m after n bytes, where r is the reading state in which it is ready
+use mathlib.Core.Path.{_≡_}
 use mathlib.Core.Bool.{Bool, true, cond, not, _&&_}
 use mathlib.Core.List.{List, [], _∷_, _++_, map}
 use Prim.Native.Nat.{ℕ, _+_, _*_, _%_}
@@ -17,10 +19,12 @@ use lib.Dec.{eqb, ltb}
 use lib.ListN.{drop, take}
 use Rattle.std.specs.Iters.{counting}
 use Rattle.std.specs.Joined.{joined}
+use Rattle.std.specs.Orderings.{Decides}
 use Rattle.std.specs.Written.{decimal}
 use Rattle.display.specs.Surface.{Surface}
 use Rattle.display.specs.declared.cell.Glyph.{Glyph}
 use Rattle.display.specs.declared.place.Cursor.{Cursor}
+use Rattle.panel.specs.Meaning.{Meaning}
 use Rattle.view.specs.declared.rows.Writing.{Writing}
 use Rattle.view.specs.declared.rows.Writing.the-variants.{Codes, Pens}
 
@@ -74,3 +78,6 @@ reported n s ready =
     ++ (cursor-line (s .cursor)
     ++ (pen-line (s .pen)
     ++ line (cond ready (codes "ready") (codes "reading"))))))
+
+abbrev pub Reports : {Mode : Type 0} → Mode → Meaning Mode → ℕ → List ℕ → Type 0
+Reports ready m n bs = (b : Bool) → Decides b (m .mode ≡ ready) → bs ≡ reported n (m .surface) b

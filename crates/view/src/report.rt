@@ -7,7 +7,7 @@ ghost use Rattle.std.specs.Of.Vec.{vec-items};
 ghost use Rattle.std.specs.Orderings.{Decides};
 ghost use Rattle.std.specs.Vec.{made};
 ghost use Rattle.panel.specs.Meaning.{feeds};
-ghost use Rattle.view.specs.Report.{pen-digit, plain, reported, rows-of};
+ghost use Rattle.view.specs.Report.{Reports, pen-digit, plain, reported, rows-of};
 use crate::pieces::append_cursor;
 use crate::pieces::append_pen;
 use crate::pieces::append_read;
@@ -50,7 +50,7 @@ fn append_report<P: Readout>(
 
 // What a panel shows after `read` bytes: the picture row by row, the cursor, the pen, and whether a sequence is half read.
 pub fn report<P: Readout>(heap: Global, panel: &P, read: usize) -> Result<Vec<u8>, AllocError>
-    ensures { λ r. ⌜ made r (λ v. (ready : Bool) → Decides ready (P·Panel .meaning (now (panel .entry)) .mode ≡ P·Panel .ready) → vec-items v ≡ reported read (P·Panel .meaning (now (panel .entry)) .surface) ready) ⌝ }
+    ensures { λ r. ⌜ made r (λ v. Reports (P·Panel .ready) (P·Panel .meaning (now (panel .entry))) read (vec-items v)) ⌝ }
 {
     let mut out = Vec::new(heap);
     append_report(&mut out, heap, panel, read)?;
@@ -60,7 +60,7 @@ pub fn report<P: Readout>(heap: Global, panel: &P, read: usize) -> Result<Vec<u8
 // Feeds some bytes to a panel and reports what it then shows.
 pub fn show<P: Readout>(heap: Global, panel: &mut P, bytes: &[u8]) -> Result<Vec<u8>, AllocError>
     ensures fed { λ _. ⌜ P·Panel .meaning (now (panel .exit)) ≡ feeds (P·Panel .fed (P·Panel .answers (now (panel .entry)))) (P·Panel .meaning (now (panel .entry))) (now (bytes .entry)) ⌝ }
-    ensures shown { λ r. ⌜ made r (λ v. (ready : Bool) → Decides ready (P·Panel .meaning (now (panel .exit)) .mode ≡ P·Panel .ready) → vec-items v ≡ reported (length (now (bytes .entry))) (P·Panel .meaning (now (panel .exit)) .surface) ready) ⌝ }
+    ensures shown { λ r. ⌜ made r (λ v. Reports (P·Panel .ready) (P·Panel .meaning (now (panel .exit))) (length (now (bytes .entry))) (vec-items v)) ⌝ }
 {
     let read = feed_all(panel, bytes);
     report(heap, panel, read)
