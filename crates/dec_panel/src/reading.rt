@@ -4,7 +4,7 @@ ghost use Prim.Native.Nat.{_<_};
 ghost use Rattle.display.specs.Surface.{at-cursor};
 ghost use Rattle.canvas.specs.Drawing.{surface};
 ghost use Rattle.dec_rules.specs.Reading.{digit-read, ended, none, pen-after, pen-by};
-ghost use Rattle.dec_rules.specs.Rules.{after, printed, unwrapped};
+ghost use Rattle.dec_rules.specs.Rules.{after, printed, wrapped};
 use canvas::canvas::Canvas;
 use dec_rules::reading::Parameters;
 
@@ -30,7 +30,7 @@ pub(crate) fn read_digit(parameters: &mut Parameters, digit: u8)
 
 // A pending wrap takes place: a held cursor goes to column 0 of the next row.
 fn wrap(canvas: &mut Canvas)
-    ensures { λ _. ⌜ surface (now (canvas .exit)) ≡ unwrapped (surface (now (canvas .entry))) ⌝ }
+    ensures { λ _. ⌜ surface (now (canvas .exit)) ≡ wrapped (surface (now (canvas .entry))) ⌝ }
 {
     let start = canvas.cursor();
     if start.held {

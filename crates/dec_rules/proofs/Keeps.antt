@@ -23,7 +23,7 @@ use Rattle.panel.specs.Lawful.{Sound}
 use Rattle.panel.specs.Meaning.{Meaning, of}
 use Rattle.dec_rules.specs.Motions.{answers}
 use Rattle.dec_rules.specs.Reading.{digit-read, ended, first, next-read, none, pen-after, pen-by, second}
-use Rattle.dec_rules.specs.Rules.{after, coded, controlled, fed, is-digit, printed, unwrapped}
+use Rattle.dec_rules.specs.Rules.{after, coded, controlled, fed, is-digit, printed, wrapped}
 use Rattle.dec_rules.specs.declared.reading.Parameters.{Parameters}
 use Rattle.dec_rules.specs.declared.reading.Reading.{Reading}
 use Rattle.dec_rules.specs.declared.reading.Reading.the-variants.{Ground, Escape, Sequence, Voided}
@@ -96,12 +96,12 @@ module _ (z : Size) where
         cond-both (eqb b 0x4a) _ _ (Kept z) (λ _. cond-both (eqb (getD (ps .values) 0 0) 2) _ _ (Kept z) (λ _. kept-cleared) (λ _. k)) λ _.
         cond-both (eqb b 0x6d) _ _ (Kept z) (λ _. kept-inked (pen-by (s .pen) ps) (pens-small (s .pen) (take (ps .at + 1) (ps .values)) (k .within .pen))) (λ _. k)
 
-  kept-unwrapped : (s : Surface) → Kept z s → Kept z (unwrapped s)
-  kept-unwrapped s k = cond-both (s .cursor .held) _ _ (Kept z) (λ _. kept-line-fed (goto s (s .cursor .place .row) 0) (kept-goto s k (s .cursor .place .row) 0)) (λ _. k)
+  kept-wrapped : (s : Surface) → Kept z s → Kept z (wrapped s)
+  kept-wrapped s k = cond-both (s .cursor .held) _ _ (Kept z) (λ _. kept-line-fed (goto s (s .cursor .place .row) 0) (kept-goto s k (s .cursor .place .row) 0)) (λ _. k)
 
   kept-printed : (s : Surface) → Kept z s → (c : ℕ) → Code c → Kept z (printed s c)
   unfolding printed
-  kept-printed s k c code = kept-drawn (unwrapped s) (kept-unwrapped s k) c code
+  kept-printed s k c code = kept-drawn (wrapped s) (kept-wrapped s k) c code
 
   kept-coded : (s : Surface) → Kept z s → (r : Reading) (b : ℕ) → Code b → Kept z (coded s r b .surface)
   unfolding coded

@@ -19,7 +19,7 @@ use Rattle.panel.specs.Meaning.{Meaning, feeds, of}
 use Rattle.dec_rules.specs.Motions.{answers, numbered, of-motion, offered, spelled}
 use Rattle.dec_rules.specs.Pens.{pen-bytes, wipe}
 use Rattle.dec_rules.specs.Reading.{ended}
-use Rattle.dec_rules.specs.Rules.{after, coded, controlled, fed, printed, unwrapped}
+use Rattle.dec_rules.specs.Rules.{after, coded, controlled, fed, printed, wrapped}
 use Rattle.dec_rules.specs.declared.motion.Motion.{Motion}
 use Rattle.dec_rules.specs.declared.reading.Reading.{Reading}
 use Rattle.dec_rules.specs.declared.reading.Reading.the-variants.{Ground}

@@ -45,10 +45,11 @@ offered z k (Right n) = unheld k (cond (ltb (k .place .column + n) (z .columns))
 offered z k (Left n) = unheld k (cond (leb n (k .place .column)) (Some (place-of (k .place .row) (k .place .column - n))) None)
 offered z k (Address p) = Some p
 
--- ESC [, a number that is left out where it is 1, and a letter
+-- 1Bh 5Bh is ESC [: a number that is left out where it is 1, and a letter
 abbrev pub relative : ℕ → ℕ → List ℕ
 relative n letter = (0x1b ∷ 0x5b ∷ []) ++ (cond (eqb n 1) [] (decimal n) ++ (letter ∷ []))
 
+-- 0Dh is the carriage return, 08h the backspace, 0Ah the line feed, 41h to 44h are A to D, 3Bh is ;, 48h is H
 abbrev pub spelled : Motion → List ℕ
 spelled Return = 0x0d ∷ []
 spelled Back = 0x08 ∷ []

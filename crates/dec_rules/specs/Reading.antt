@@ -50,6 +50,7 @@ pen-after p v =
 abbrev pub pen-by : ℕ → Parameters → ℕ
 pen-by p ps = folded pen-after p (take (ps .at + 1) (ps .values))
 
+-- 41h to 44h are A, B, C, D: up, down, right, left; 48h is H, 4Ah is J, 6Dh is m
 unfoldable pub ended : Surface → Parameters → ℕ → Surface
 ended s ps b =
     let r = s .cursor .place .row in

@@ -1,6 +1,7 @@
 -- What a byte does, by the reading state.
 --     after z p         the cursor once a code was printed at p: the next column, or held in the last one
---     printed s c       the surface s after the code c: a held cursor first goes to column 0 of the next row
+--     wrapped s         a pending wrap takes place: a held cursor goes to column 0 of the next row
+--     printed s c       the surface s after the code c, drawn once a pending wrap has taken place
 --     coded s r b       the byte b is a code, 20h to 7Eh
 --     controlled s r b  the byte b is no code
 --     fed m b           the meaning m after the byte b
@@ -21,16 +22,16 @@ use Rattle.dec_rules.specs.declared.reading.Reading.the-variants.{Ground, Esca
 abbrev pub after : Size → Place → Cursor
 after z p = cond (ltb (p .column + 1) (z .columns)) (resting (place-of (p .row) (p .column + 1))) (record { place = p; held = true })
 
--- a pending wrap takes place
-abbrev pub unwrapped : Surface → Surface
-unwrapped s = cond (s .cursor .held) (line-fed (goto s (s .cursor .place .row) 0)) s
+abbrev pub wrapped : Surface → Surface
+wrapped s = cond (s .cursor .held) (line-fed (goto s (s .cursor .place .row) 0)) s
 
 unfoldable pub printed : Surface → ℕ → Surface
-printed s c = let t = unwrapped s in at-cursor (drawn t c) (after (t .size) (t .cursor .place))
+printed s c = let t = wrapped s in at-cursor (drawn t c) (after (t .size) (t .cursor .place))
 
 abbrev pub is-digit : ℕ → Bool
 is-digit b = leb 0x30 b && leb b 0x39
 
+-- 5Bh is [, 30h to 39h are the digits, 3Bh is ;
 unfoldable pub coded : Surface → Reading → ℕ → Meaning Reading
 coded s Ground b = of (printed s b) Ground
 coded s Escape b = of s (cond (eqb b 0x5b) (Sequence none) Ground)
@@ -40,6 +41,7 @@ coded s (Sequence ps) b =
     cond (ltb b 0x40) (of s Voided) (of (ended s ps b) Ground)))
 coded s Voided b = of s (cond (ltb b 0x40) Voided Ground)
 
+-- 08h is the backspace, 0Ah the line feed, 0Dh the carriage return, 1Bh is ESC, 18h cancels
 unfoldable pub controlled : Surface → Reading → ℕ → Meaning Reading
 controlled s r b =
     let row = s .cursor .place .row in
