@@ -53,7 +53,7 @@ fn append_cell<P: Readout>(
             out.push(cell_byte(writing, glyph))?;
             Ok(())
         }
-        None => Ok(()),
+        None => unreachable(),
     }
 }
 
@@ -97,9 +97,9 @@ fn pen_at<P: Readout>(panel: &P, number: usize) -> u8
     match panel.size().place_at(number) {
         Some(place) => match panel.glyph(place) {
             Some(glyph) => glyph.pen,
-            None => 0,
+            None => unreachable(),
         },
-        None => 0,
+        None => unreachable(),
     }
 }
 

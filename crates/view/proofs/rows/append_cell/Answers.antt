@@ -8,8 +8,8 @@ use Rattle.view.specs.Report.{writes}
 use Rattle.view.proofs.Cells.{cell-within}
 use Rattle.view.proofs.rows.append_cell.Needs as need
 
-pub returns-in-Continue-push : need.returns-in-Continue-push
-returns-in-Continue-push g c d =
+pub returns : need.returns
+returns g c d =
     let p = c .args .panel .now in
     let s = g .P·Panel .meaning p .surface in
     let i = number (s .size) (c .args .place) in

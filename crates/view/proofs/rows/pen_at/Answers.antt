@@ -8,8 +8,8 @@ use Rattle.display.specs.declared.size.Size.{Size}
 use Rattle.view.proofs.Cells.{cell-within}
 use Rattle.view.proofs.rows.pen_at.Needs as need
 
-pub returns-in-Some-glyph : need.returns-in-Some-glyph
-returns-in-Some-glyph g c =
+pub returns : need.returns
+returns g c =
     let p = c .args .panel .now in
     let s = g .P·Panel .meaning p .surface in
     let sound = g .P·Panel·met .sound p in
