@@ -8,10 +8,8 @@ use std::error::AnyError;
 use std::io::Read;
 use std::io::Write;
 use view::arguments::asked_size;
+use view::input::add_part;
 use view::report::show;
-
-// The longest input, in bytes.
-const LIMIT: usize = 1_048_576;
 
 const USAGE: &str =
     "usage: panelview [KIND ROWS COLUMNS]: KIND D, ROWS 1 to 24, COLUMNS 2 to 80; without them D 24 80";
@@ -52,8 +50,7 @@ fn read_input(rt: &LibcRuntime) -> Result<Vec<u8>, AnyError> {
         if count == 0 {
             break;
         }
-        input.extend_from_slice(&part[0..count])?;
-        if input.len() > LIMIT {
+        if !add_part(&mut input, &part[0..count])? {
             return Err("the input is longer than 1048576 bytes".into());
         }
     }
