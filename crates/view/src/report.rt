@@ -59,6 +59,7 @@ pub fn report<P: Readout>(heap: Global, panel: &P, read: usize) -> Result<Vec<u8
 
 // Feeds some bytes to a panel and reports what it then shows.
 pub fn show<P: Readout>(heap: Global, panel: &mut P, bytes: &[u8]) -> Result<Vec<u8>, AllocError>
+    ensures fixed { λ _. ⌜ P·Panel .answers (now (panel .exit)) ≡ P·Panel .answers (now (panel .entry)) ⌝ }
     ensures fed { λ _. ⌜ P·Panel .meaning (now (panel .exit)) ≡ feeds (P·Panel .fed (P·Panel .answers (now (panel .entry)))) (P·Panel .meaning (now (panel .entry))) (now (bytes .entry)) ⌝ }
     ensures shown { λ r. ⌜ made r (λ v. Reports (P·Panel .ready) (P·Panel .meaning (now (panel .exit))) (length (now (bytes .entry))) (vec-items v)) ⌝ }
 {
