@@ -15,7 +15,7 @@ HEAD = re.compile(r"^\s*(?:abbrev |unfoldable )*(?:pub )?(?:record |data )?([A-Z
 FIELD = re.compile(r"^\s*(?:pub )?([A-Za-z][\w'′]*(?:-[\w'′]+)+) :")
 # Names that the checker gives to goals, and names of the library that begin a line of a proof.
 MADE = re.compile(r"^(returns|invariant|loop|overflow|index|requires)-|-requires$|^(in|if|else)-(?!state$)|^then-(?!more$)")
-LIBRARY = {"cond-false", "cond-true"}
+LIBRARY = {"cond-false", "cond-true", "Decides-like"}
 # A function of the same file has the name: the definition is imported under this one.
 BESIDE = {
     "crates/dec_panel/src/reading.rt": {"pen_after": "after_parameter", "pen_by": "after_parameters"},

@@ -2,7 +2,7 @@
 use Rattle.std.proofs.Common.{◌≡◌, ℕ, Bool, true, false, ltb, leb, List, Decides, refl}
 use Rattle.std.specs.List.{AllByRecursion as All}
 use Rattle.std.proofs.lemmas.Bool.{and_from, and_parts, le-leb, leb-true}
-use Rattle.std.proofs.lemmas.Bool.Decides.{Decides-and, Decides_like, Decides-ltb}
+use Rattle.std.proofs.lemmas.Bool.Decides.{Decides-and, Decides-like, Decides-ltb}
 use Rattle.std.proofs.ByRecursion.{Decides-by_and}
 use Rattle.display.specs.Cell.{Code, is_code}
 use Rattle.display.specs.Surface.{Printed, all_printed, is_printed}
@@ -28,7 +28,7 @@ decides_code n = (true_code n, code_true n)
 
 decides_printed : (P : ℕ) (g : Glyph) → Decides (is_printed P g) (Printed P g)
 decides_printed P g =
-    Decides_like (is_printed P g) (λ h. record { code = h.0; pen = h.1 }) (λ h. (h.code, h.pen))
+    Decides-like (is_printed P g) (λ h. record { code = h.0; pen = h.1 }) (λ h. (h.code, h.pen))
     (Decides-and (is_code g.code) (ltb g.pen P) (decides_code g.code) (Decides-ltb g.pen P))
 
 -- the test of a picture says that every cell is a printable code in one of the pens

@@ -1,5 +1,7 @@
 // Examples of use, as tests: sizes, places and cells, the words that a program takes, the deferred-wrap panel, and what
 // all panels share. The examples of each other kind of panel are in a crate of their own.
+#![tactic(auto)]
+
 #[cfg(test)]
 mod arguments;
 #[cfg(test)]

@@ -1,4 +1,6 @@
 // Shows the picture that a stream of bytes leaves on a panel.
+#![tactic(auto)]
+
 use anyhow::anyhow;
 use dec_panel::model::DecPanel;
 use panel::readout::Readout;

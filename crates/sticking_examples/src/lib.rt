@@ -1,4 +1,6 @@
 // Examples of the sticking panel, as tests: what it shows after a stream, and what it answers.
+#![tactic(auto)]
+
 #[cfg(test)]
 mod answers;
 #[cfg(test)]

@@ -1,4 +1,6 @@
 // What a person is shown of a panel, as text.
+#![tactic(auto)]
+
 pub mod arguments;
 pub mod input;
 mod pieces;

@@ -12,7 +12,7 @@ pub loop-i-preserved : goal.loop-i-preserved
 loop-i-preserved c =
     let e = fill_from_more c.args.cells.now c.args.from c.loop-i.i blank (omega arith) in
     let inv = c.loop-i.invariant in
-    let b = c.blank-glyph.ensures in
+    let b = c.blank_glyph.ensures in
     cc
 
 pub returns : goal.returns

@@ -18,35 +18,35 @@ returns-in-65 c =
     let s = surface c.args.canvas.now in
     let ps = c.args.parameters.now in
     let k = c.cursor.ensures in
-    c.move-to.ensures ∙ ap₂ (goto s) (c.saturating-sub.ensures ∙ ap₂ ◌-◌ (ap row_of k) c.max-first.ensures) (ap column_of k) ∙ sym (ap (ended s ps) c.in-65.is ∙ ended_up s ps)
+    c.move_to.ensures ∙ ap₂ (goto s) (c.saturating_sub.ensures ∙ ap₂ ◌-◌ (ap row_of k) c.max-first.ensures) (ap column_of k) ∙ sym (ap (ended s ps) c.in-65.is ∙ ended_up s ps)
 
 pub returns-in-66 : goal.returns-in-66
 returns-in-66 c =
     let s = surface c.args.canvas.now in
     let ps = c.args.parameters.now in
     let k = c.cursor.ensures in
-    c.move-to-in-66.ensures ∙ ap₂ (goto s) (ap₂ ◌+◌ (ap row_of k) c.max-first.ensures) (ap column_of k) ∙ sym (ap (ended s ps) c.in-66.is ∙ ended_down s ps)
+    c.move_to-in-66.ensures ∙ ap₂ (goto s) (ap₂ ◌+◌ (ap row_of k) c.max-first.ensures) (ap column_of k) ∙ sym (ap (ended s ps) c.in-66.is ∙ ended_down s ps)
 
 pub returns-in-67 : goal.returns-in-67
 returns-in-67 c =
     let s = surface c.args.canvas.now in
     let ps = c.args.parameters.now in
     let k = c.cursor.ensures in
-    c.move-to-in-67.ensures ∙ ap₂ (goto s) (ap row_of k) (ap₂ ◌+◌ (ap column_of k) c.max-first.ensures) ∙ sym (ap (ended s ps) c.in-67.is ∙ ended_right s ps)
+    c.move_to-in-67.ensures ∙ ap₂ (goto s) (ap row_of k) (ap₂ ◌+◌ (ap column_of k) c.max-first.ensures) ∙ sym (ap (ended s ps) c.in-67.is ∙ ended_right s ps)
 
 pub returns-in-68 : goal.returns-in-68
 returns-in-68 c =
     let s = surface c.args.canvas.now in
     let ps = c.args.parameters.now in
     let k = c.cursor.ensures in
-    c.move-to-in-68.ensures ∙ ap₂ (goto s) (ap row_of k) (c.saturating-sub-in-68.ensures ∙ ap₂ ◌-◌ (ap column_of k) c.max-first.ensures) ∙ sym (ap (ended s ps) c.in-68.is ∙ ended_left s ps)
+    c.move_to-in-68.ensures ∙ ap₂ (goto s) (ap row_of k) (c.saturating_sub-in-68.ensures ∙ ap₂ ◌-◌ (ap column_of k) c.max-first.ensures) ∙ sym (ap (ended s ps) c.in-68.is ∙ ended_left s ps)
 
 pub returns-in-72 : goal.returns-in-72
 returns-in-72 c =
     let s = surface c.args.canvas.now in
     let ps = c.args.parameters.now in
     let k = c.cursor.ensures in
-    c.move-to-in-72.ensures ∙ ap₂ (goto s) (ap (λ n. n - 1) c.max-first.ensures) (ap (λ n. n - 1) c.max-second.ensures) ∙ sym (ap (ended s ps) c.in-72.is ∙ ended_home s ps)
+    c.move_to-in-72.ensures ∙ ap₂ (goto s) (ap (λ n. n - 1) c.max-first.ensures) (ap (λ n. n - 1) c.max-second.ensures) ∙ sym (ap (ended s ps) c.in-72.is ∙ ended_home s ps)
 
 pub returns-in-74 : goal.returns-in-74
 returns-in-74 c =
@@ -64,7 +64,7 @@ pub returns-in-109 : goal.returns-in-109
 returns-in-109 c =
     let s = surface c.args.canvas.now in
     let ps = c.args.parameters.now in
-    c.set-pen.ensures ∙ ap (inked s) (c.pen-by-pen.ensures ∙ ap (λ p. pen_by p ps) c.pen.ensures) ∙ sym (ap (ended s ps) c.in-109.is ∙ ended_pen s ps)
+    c.set_pen.ensures ∙ ap (inked s) (c.pen_by-pen.ensures ∙ ap (λ p. pen_by p ps) c.pen.ensures) ∙ sym (ap (ended s ps) c.in-109.is ∙ ended_pen s ps)
 
 pub returns : goal.returns
 returns c =

@@ -15,13 +15,13 @@ returns c =
     let open' : List ℕ = 27 ∷ 91 ∷ [] in
     let semi : List ℕ = 59 ∷ [] in
     let last : List ℕ = 72 ∷ [] in
-    let b1 = bytes_of c.push-decimal.new.bytes in
+    let b1 = bytes_of c.push_decimal.new.bytes in
     let b2 = bytes_of c.push.new.self in
-    let b3 = bytes_of c.push-decimal-2.new.bytes in
+    let b3 = bytes_of c.push_decimal-2.new.bytes in
     let b4 = bytes_of c.push-2.new.self in
-    let e1 = capped_more 16 open' r _ b1 c.from-slice-bytes.ensures c.push-decimal.ensures in
+    let e1 = capped_more 16 open' r _ b1 c.from_slice-bytes.ensures c.push_decimal.ensures in
     let e2 = capped_more 16 (open' ++ r) semi b1 b2 e1 c.push.ensures in
-    let e3 = capped_more 16 ((open' ++ r) ++ semi) k b2 b3 e2 c.push-decimal-2.ensures in
+    let e3 = capped_more 16 ((open' ++ r) ++ semi) k b2 b3 e2 c.push_decimal-2.ensures in
     let joined : (((open' ++ r) ++ semi) ++ k) ++ last ≡ spelled (Address p) = simp append_assoc in
     capped_more 16 (((open' ++ r) ++ semi) ++ k) last b3 b4 e3 c.push-2.ensures
     ∙ ap (take 16) joined

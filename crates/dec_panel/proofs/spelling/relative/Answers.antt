@@ -12,7 +12,7 @@ returns c =
     let n = c.args.n in
     let open' : List ℕ = 27 ∷ 91 ∷ [] in
     let last : List ℕ = c.args.letter ∷ [] in
-    let one = capped_more 16 open' (decimal n) _ (bytes_of c.push-decimal.new.bytes) c.from-slice-bytes.ensures c.push-decimal.ensures in
-    capped_more 16 (open' ++ decimal n) last (bytes_of c.push-decimal.new.bytes) (bytes_of c.push-2.new.self) one c.push-2.ensures
+    let one = capped_more 16 open' (decimal n) _ (bytes_of c.push_decimal.new.bytes) c.from_slice-bytes.ensures c.push_decimal.ensures in
+    capped_more 16 (open' ++ decimal n) last (bytes_of c.push_decimal.new.bytes) (bytes_of c.push-2.new.self) one c.push-2.ensures
     ∙ ap (λ (l : List ℕ). take 16 (open' ++ (l ++ last))) (sym (cond-false (eqb n 1) [] (decimal n) (ne_eqb n 1 c.if-n-eq1.false)))
     ∙ take_all 16 (relative n c.args.letter) (relative_short n c.args.letter (omega arith)).1

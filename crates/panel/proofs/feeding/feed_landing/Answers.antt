@@ -7,9 +7,9 @@ pub returns : goal.returns
 returns g c =
     let P = g.P.Panel in
     let p = c.args.panel.now in
-    let sent = c.feed-each.ensures.after ∙ ap (feeds (P.fed (P.answers p)) (P.meaning p)) c.requires in
+    let sent = c.feed_each.ensures.after ∙ ap (feeds (P.fed (P.answers p)) (P.meaning p)) c.requires in
     record {
-      fixed = c.feed-each.ensures.fixed;
+      fixed = c.feed_each.ensures.fixed;
       after = sent;
       lands = λ to ready offered. sent
           ∙ (g.met.P.Panel.lawful p).moves (P.meaning p) c.args.motion

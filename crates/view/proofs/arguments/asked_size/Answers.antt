@@ -5,5 +5,5 @@ use Rattle.view.proofs.arguments.asked_size.Goals as goal
 pub returns-in-default : goal.returns-in-default
 returns-in-default c z asked = let few = z.rows_most in c.in-default.ensures z.rows (omega arith) asked.rows
 
-pub returns-in-default-read-number : goal.returns-in-default-read-number
-returns-in-default-read-number c z asked = let few = z.columns_most in c.in-default-read-number.ensures z.columns (omega arith) asked.columns
+pub returns-in-default-read_number : goal.returns-in-default-read_number
+returns-in-default-read_number c z asked = let few = z.columns_most in c.in-default-read_number.ensures z.columns (omega arith) asked.columns

@@ -9,11 +9,11 @@ returns c =
     let x1 : List ℕ = codes "read " in
     let b1 = vec_items c.append.new.out in
     let x2 : List ℕ = decimal c.args.n in
-    let b2 = vec_items c.append-number.new.out in
+    let b2 = vec_items c.append_number.new.out in
     let x3 : List ℕ = 10 ∷ [] in
     let b3 = vec_items c.append-2.new.out in
     let e1 = c.in-ok-append.ensures in
-    let e2 = then_more start b1 b2 x1 x2 e1 c.in-ok-append-number.ensures in
+    let e2 = then_more start b1 b2 x1 x2 e1 c.in-ok-append_number.ensures in
     let e3 = then_more start b2 b3 (x1 ++ x2) x3 e2 c.in-ok-append-2.ensures in
     let joined : (x1 ++ x2) ++ x3 ≡ line (codes "read " ++ decimal c.args.n) = simp append_assoc in
     e3 ∙ ap (λ l. start ++ l) joined

@@ -21,9 +21,9 @@ loop-column-preserved g c =
     let on : On s.size (place_of c.args.row k) =
     record { row = c.requires; column = subst (λ (z : Size). k < z.columns) same c.loop-column-test.true } in
     let within = cell_within (g.P.Panel.answers p).pens s sound.within (place_of c.args.row k) on in
-    then_more start (vec_items c.loop-column.out) (vec_items c.append-cell.new.out)
+    then_more start (vec_items c.loop-column.out) (vec_items c.append_cell.new.out)
     (map f (take k (drop from s.picture))) (f (get_or s.picture (from + k) blank) ∷ [])
-    c.loop-column.invariant (c.in-ok-append-cell.ensures blank)
+    c.loop-column.invariant (c.in-ok-append_cell.ensures blank)
     ∙ ap (λ l. start ++ l) (sym (row_more f s.picture from k blank within))
 
 pub returns : goal.returns

@@ -13,18 +13,18 @@ use Rattle.dec_panel.proofs.model.DecPanel.control.Goals as goal
 line_fed_read : (p : DecPanel) (t : Surface) (b : ℕ) → t ≡ line_fed (surface p.canvas) → b ≡ 10 → of t p.reading ≡ fed (meaning_of p) b
 line_fed_read p t b e is = ap (λ s. of s p.reading) e ∙ sym (ap (fed (meaning_of p)) is ∙ fed_line_feed (surface p.canvas) p.reading)
 
-pub invariant-of-self-in-10 : goal.invariant-of-self-in-10
-invariant-of-self-in-10 c =
+pub invariant_of-self-in-10 : goal.invariant_of-self-in-10
+invariant_of-self-in-10 c =
     let p = c.args.self.now in
-    let t = surface c.line-feed.new.self in
-    let k = stays p c.args.byte t p.reading (line_fed_read p t c.args.byte c.line-feed.ensures c.in-10.is) in
+    let t = surface c.line_feed.new.self in
+    let k = stays p c.args.byte t p.reading (line_fed_read p t c.args.byte c.line_feed.ensures c.in-10.is) in
     (k.pen, (k.cells, tt))
 
 pub returns-in-10 : goal.returns-in-10
 returns-in-10 c =
     let p = c.args.self.now in
-    let t = surface c.line-feed.new.self in
-    let after = line_fed_read p t c.args.byte c.line-feed.ensures c.in-10.is in
+    let t = surface c.line_feed.new.self in
+    let after = line_fed_read p t c.args.byte c.line_feed.ensures c.in-10.is in
     record { fixed = (stays p c.args.byte t p.reading after).sized; after = after }
 
 pub returns-in-8 : goal.returns-in-8
@@ -33,10 +33,10 @@ returns-in-8 c =
     let s = surface p.canvas in
     let k = c.cursor.ensures in
     let row = ap (λ (j : Cursor). j.place.row) k in
-    let column = c.saturating-sub.ensures ∙ ap (λ (j : Cursor). j.place.column - 1) k in
+    let column = c.saturating_sub.ensures ∙ ap (λ (j : Cursor). j.place.column - 1) k in
     record {
-      fixed = ap (λ (t : Surface). t.size) c.move-to.ensures;
-      after = ap (λ t. of t p.reading) (c.move-to.ensures ∙ ap₂ (goto s) row column) ∙ sym (ap (fed (meaning_of p)) c.in-8.is ∙ fed_back s p.reading);
+      fixed = ap (λ (t : Surface). t.size) c.move_to.ensures;
+      after = ap (λ t. of t p.reading) (c.move_to.ensures ∙ ap₂ (goto s) row column) ∙ sym (ap (fed (meaning_of p)) c.in-8.is ∙ fed_back s p.reading);
     }
 
 pub returns-in-13 : goal.returns-in-13
@@ -45,8 +45,8 @@ returns-in-13 c =
     let s = surface p.canvas in
     let row = ap (λ (j : Cursor). j.place.row) c.cursor.ensures in
     record {
-      fixed = ap (λ (t : Surface). t.size) c.move-to-in-13.ensures;
-      after = ap (λ t. of t p.reading) (c.move-to-in-13.ensures ∙ ap (λ r. goto s r 0) row) ∙ sym (ap (fed (meaning_of p)) c.in-13.is ∙ fed_return s p.reading);
+      fixed = ap (λ (t : Surface). t.size) c.move_to-in-13.ensures;
+      after = ap (λ t. of t p.reading) (c.move_to-in-13.ensures ∙ ap (λ r. goto s r 0) row) ∙ sym (ap (fed (meaning_of p)) c.in-13.is ∙ fed_return s p.reading);
     }
 
 pub returns-in-27 : goal.returns-in-27

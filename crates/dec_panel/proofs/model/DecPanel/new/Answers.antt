@@ -4,8 +4,8 @@ use Rattle.display.proofs.Codes.{decides_all_printed}
 use Rattle.canvas.proofs.Within.{all_blank}
 use Rattle.dec_panel.proofs.model.DecPanel.new.Goals as goal
 
-pub invariant-of-result : goal.invariant-of-result
-invariant-of-result c =
+pub invariant_of-result : goal.invariant_of-result
+invariant_of-result c =
     let z = c.args.size in
     let n = z.rows * z.columns in
     let e = c.in-ok-canvas.ensures in

@@ -2,8 +2,8 @@ use Rattle.std.proofs.Common.{arith}
 use Rattle.display.proofs.Places.{numbered_place}
 use Rattle.display.proofs.size.Size.split.Goals as goal
 
-pub overflow-cast-result : goal.overflow-cast-result
-overflow-cast-result c =
+pub overflow_cast-result : goal.overflow_cast-result
+overflow_cast-result c =
     let z = c.args.self.now in
     let row = (numbered_place z c.args.number c.requires).on.row in
     let few = z.rows_most in

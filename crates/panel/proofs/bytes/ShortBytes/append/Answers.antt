@@ -18,7 +18,7 @@ loop-byte-preserved c =
     let b = get_or bytes i 0 in (
       omega arith,
       capped_more 16 (was ++ take i bytes) (b ∷ []) (bytes_of c.loop-byte.self)
-          (bytes_of c.append-one.new.self) c.loop-byte.invariant.1 c.append-one.ensures
+          (bytes_of c.append_one.new.self) c.loop-byte.invariant.1 c.append_one.ensures
           ∙ ap (take 16) (append_assoc was (take i bytes) (b ∷ [])
           ∙ ap (λ l. was ++ l) (sym (take_more bytes i 0 c.loop-byte-test.true))),
     )

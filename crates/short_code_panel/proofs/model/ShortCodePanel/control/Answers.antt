@@ -15,8 +15,8 @@ acting : (p : ShortCodePanel) (b : ℕ) (t : Surface) → b < 32 → (b ≡ 27 �
 acting p b t low other e =
     follows p b t Ready (ap (λ u. of u Ready) e ∙ sym (fed_control (surface p.canvas) p.reading b low other))
 
-pub invariant-of-self-then-byte-lt32 : goal.invariant-of-self-then-byte-lt32
-invariant-of-self-then-byte-lt32 c =
+pub invariant_of-self-then-byte-lt32 : goal.invariant_of-self-then-byte-lt32
+invariant_of-self-then-byte-lt32 c =
     let f = acting c.args.self.now c.args.byte (surface c.act.new.canvas) (omega arith) (omega arith)
     c.act.ensures in
     (f.stays.pen, (f.stays.cells, (f.unheld, tt)))

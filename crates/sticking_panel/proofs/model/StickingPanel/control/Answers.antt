@@ -7,8 +7,8 @@ use Rattle.sticking_panel.specs.Invariant.{acts}
 use Rattle.sticking_panel.specs.Moves.{fed_back, fed_ignored, fed_line_feed, fed_return, fed_wipe}
 use Rattle.sticking_panel.proofs.model.StickingPanel.control.Goals as goal
 
-pub invariant-of-self-in-12 : goal.invariant-of-self-in-12
-invariant-of-self-in-12 c =
+pub invariant_of-self-in-12 : goal.invariant_of-self-in-12
+invariant_of-self-in-12 c =
     let p = c.args.self.now in
     let f = acts p c.args.byte 12 (surface c.wipe.new.self) _ c.in-12.is
     (fed_wipe (surface p.canvas)) c.wipe.ensures in
@@ -45,8 +45,8 @@ returns-in-13 c =
     let p = c.args.self.now in
     let s = surface p.canvas in
     let to = ap (λ (k : Cursor). goto s k.place.row 0) c.cursor.ensures in
-    let f = acts p c.args.byte 13 (surface c.move-to.new.self) _ c.in-13.is (fed_return s)
-    (c.move-to.ensures ∙ to) in
+    let f = acts p c.args.byte 13 (surface c.move_to.new.self) _ c.in-13.is (fed_return s)
+    (c.move_to.ensures ∙ to) in
     record { fixed = f.stays.sized; after = f.after }
 
 pub returns-in-default : goal.returns-in-default

@@ -4,8 +4,8 @@ use Rattle.canvas.specs.Drawing.{surface}
 use Rattle.canvas.proofs.Fits.{stays_wiped}
 use Rattle.sticking_panel.proofs.model.StickingPanel.new.Goals as goal
 
-pub invariant-of-result : goal.invariant-of-result
-invariant-of-result c =
+pub invariant_of-result : goal.invariant_of-result
+invariant_of-result c =
     let e = c.in-ok-canvas.ensures in
     let k = stays_wiped 1 _ (surface c.in-ok-canvas.canvas) (omega arith) e in
     (k.pen, (k.cells, (ap (λ (s : Surface). s.cursor.held) e, tt)))

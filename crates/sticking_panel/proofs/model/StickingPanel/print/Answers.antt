@@ -14,8 +14,8 @@ printing p b t d code draws goes =
     let s = surface p.canvas in
     acts p b b t (printed s b) refl (fed_code s b code) (goes ∙ ap (λ u. onward u u) draws)
 
-pub invariant-of-self : goal.invariant-of-self
-invariant-of-self c =
+pub invariant_of-self : goal.invariant_of-self
+invariant_of-self c =
     let f = printing c.args.self.now c.args.code _ (surface c.draw.new.self) c.requires
     c.draw.ensures c.advance.ensures.after in
     (f.stays.pen, (f.stays.cells, (f.unheld, tt)))

@@ -36,19 +36,19 @@ separating p ps b r is =
 voiding : (p : DecPanel) (ps : Parameters) (b : ℕ) → p.reading ≡ Sequence ps → 32 ≤ b → b < 64 → (b < 48) ⊎ (57 < b) → (b ≡ 59 → ⊥) → of (surface p.canvas) Voided ≡ fed (meaning_of p) b
 voiding p ps b r low high digit next = sym (fed_intermediate (surface p.canvas) ps b low high digit next) ∙ in_state p (Sequence ps) b r
 
-pub invariant-of-self-then-byte-lt127 : goal.invariant-of-self-then-byte-lt127
-invariant-of-self-then-byte-lt127 c =
+pub invariant_of-self-then-byte-lt127 : goal.invariant_of-self-then-byte-lt127
+invariant_of-self-then-byte-lt127 c =
     let p = c.args.self.now in
     let t = surface c.print.new.canvas in
     let k = stays p c.args.byte t Ground (printing p t c.args.byte c.in-Ground-32-to-126.is-0 (omega arith) (omega arith) c.print.ensures) in
     (k.pen, (k.cells, tt))
 
-pub invariant-of-self-then-this-lt127-2 : goal.invariant-of-self-then-this-lt127-2
-invariant-of-self-then-this-lt127-2 c =
+pub invariant_of-self-then-this-lt127-2 : goal.invariant_of-self-then-this-lt127-2
+invariant_of-self-then-this-lt127-2 c =
     let p = c.args.self.now in
-    let t = surface c.end-sequence.new.canvas in
+    let t = surface c.end_sequence.new.canvas in
     let a = c.in-Sequence-64-to-126 in
-    let k = stays p c.args.byte t Ground (ending p a.parameters t c.args.byte a.is-0 (omega arith) (omega arith) c.end-sequence.ensures) in
+    let k = stays p c.args.byte t Ground (ending p a.parameters t c.args.byte a.is-0 (omega arith) (omega arith) c.end_sequence.ensures) in
     (k.pen, (k.cells, tt))
 
 pub returns-in-Ground-32-to-126 : goal.returns-in-Ground-32-to-126
@@ -61,9 +61,9 @@ returns-in-Ground-32-to-126 c =
 pub returns-in-Sequence-64-to-126 : goal.returns-in-Sequence-64-to-126
 returns-in-Sequence-64-to-126 c =
     let p = c.args.self.now in
-    let t = surface c.end-sequence.new.canvas in
+    let t = surface c.end_sequence.new.canvas in
     let a = c.in-Sequence-64-to-126 in
-    let after = ending p a.parameters t c.args.byte a.is-0 (omega arith) (omega arith) c.end-sequence.ensures in
+    let after = ending p a.parameters t c.args.byte a.is-0 (omega arith) (omega arith) c.end_sequence.ensures in
     record { fixed = ap answers (stays p c.args.byte t Ground after).sized; after = after }
 
 pub returns-in-Escape-eq91 : goal.returns-in-Escape-eq91
@@ -73,7 +73,7 @@ returns-in-Escape-eq91 c =
     let is : c.args.byte ≡ 91 = omega arith in
     record {
       fixed = refl;
-      after = ap (λ q. of s (Sequence q)) c.no-parameter.ensures ∙ sym (fed_open s) ∙ ap (fed (of s Escape)) (sym is) ∙ in_state p Escape c.args.byte c.in-Escape-eq91.is-0;
+      after = ap (λ q. of s (Sequence q)) c.no_parameter.ensures ∙ sym (fed_open s) ∙ ap (fed (of s Escape)) (sym is) ∙ in_state p Escape c.args.byte c.in-Escape-eq91.is-0;
     }
 
 pub returns-in-Escape-32-to-126 : goal.returns-in-Escape-32-to-126
@@ -90,7 +90,7 @@ returns-in-Sequence-48-to-57 c =
     let a = c.in-Sequence-48-to-57 in
     record {
       fixed = refl;
-      after = ap (λ q. of s (Sequence q)) c.read-digit.ensures ∙ sym (fed_numeral s a.parameters c.args.byte (omega arith) (omega arith)) ∙ in_state p (Sequence a.parameters) c.args.byte a.is-0;
+      after = ap (λ q. of s (Sequence q)) c.read_digit.ensures ∙ sym (fed_numeral s a.parameters c.args.byte (omega arith) (omega arith)) ∙ in_state p (Sequence a.parameters) c.args.byte a.is-0;
     }
 
 pub returns-in-Sequence-eq59 : goal.returns-in-Sequence-eq59

@@ -28,8 +28,8 @@ printing p t b r low high e =
       most = high;
     })) ∙ in_state p Ready b r)
 
-pub invariant-of-self-then-byte-lt127 : goal.invariant-of-self-then-byte-lt127
-invariant-of-self-then-byte-lt127 c =
+pub invariant_of-self-then-byte-lt127 : goal.invariant_of-self-then-byte-lt127
+invariant_of-self-then-byte-lt127 c =
     let f = printing c.args.self.now (surface c.print.new.canvas) c.args.byte
     c.in-Ready-32-to-126.is-0 (omega arith) (omega arith) c.print.ensures in
     (f.stays.pen, (f.stays.cells, (f.unheld, tt)))
