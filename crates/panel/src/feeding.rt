@@ -9,18 +9,18 @@ use crate::panel::Panel;
 // Feeds some bytes and tells how many they were.
 pub fn feed_all<P: Panel>(panel: &mut P, bytes: &[u8]) -> usize
     ensures count { result ≡ length bytes.now }
-    ensures fixed { answers panel.new ≡ answers panel.old }
-    ensures after { meaning panel.new
-        ≡ feeds (fed (answers panel.old)) (meaning panel.old) bytes.now }
+    ensures fixed { P.answers panel.new ≡ P.answers panel.old }
+    ensures after { P.meaning panel.new
+        ≡ feeds (P.fed (P.answers panel.old)) (P.meaning panel.old) bytes.now }
 {
     feed_each(panel, bytes);
     bytes.len()
 }
 
 fn feed_each<P: Panel>(panel: &mut P, bytes: &[u8])
-    ensures fixed { answers panel.new ≡ answers panel.old }
-    ensures after { meaning panel.new
-        ≡ feeds (fed (answers panel.old)) (meaning panel.old) bytes.now }
+    ensures fixed { P.answers panel.new ≡ P.answers panel.old }
+    ensures after { P.meaning panel.new
+        ≡ feeds (P.fed (P.answers panel.old)) (P.meaning panel.old) bytes.now }
 {
     for byte in bytes {
         panel.feed(*byte);
@@ -29,12 +29,12 @@ fn feed_each<P: Panel>(panel: &mut P, bytes: &[u8])
 
 // Feeds the bytes of a motion. A ready panel lands where the motion is told to land, unheld and ready.
 pub fn feed_motion<P: Panel>(panel: &mut P, motion: u16)
-    ensures fixed { answers panel.new ≡ answers panel.old }
-    ensures after { meaning panel.new
-        ≡ feeds (fed (answers panel.old)) (meaning panel.old)
-        ((answers panel.old).motion_bytes motion) }
-    ensures lands { Lands ready (answers panel.old) (meaning panel.old) motion
-        (meaning panel.new) }
+    ensures fixed { P.answers panel.new ≡ P.answers panel.old }
+    ensures after { P.meaning panel.new
+        ≡ feeds (P.fed (P.answers panel.old)) (P.meaning panel.old)
+        ((P.answers panel.old).motion_bytes motion) }
+    ensures lands { Lands P.ready (P.answers panel.old) (P.meaning panel.old) motion
+        (P.meaning panel.new) }
 {
     let bytes = panel.motion_bytes(motion);
     feed_landing(panel, motion, bytes.as_slice());
@@ -42,36 +42,36 @@ pub fn feed_motion<P: Panel>(panel: &mut P, motion: u16)
 
 // Feeds bytes that are those of a motion.
 fn feed_landing<P: Panel>(panel: &mut P, motion: u16, sent: &[u8])
-    requires { sent.now ≡ (answers panel.old).motion_bytes motion }
-    ensures fixed { answers panel.new ≡ answers panel.old }
-    ensures after { meaning panel.new
-        ≡ feeds (fed (answers panel.old)) (meaning panel.old)
-        ((answers panel.old).motion_bytes motion) }
-    ensures lands { Lands ready (answers panel.old) (meaning panel.old) motion
-        (meaning panel.new) }
+    requires { sent.now ≡ (P.answers panel.old).motion_bytes motion }
+    ensures fixed { P.answers panel.new ≡ P.answers panel.old }
+    ensures after { P.meaning panel.new
+        ≡ feeds (P.fed (P.answers panel.old)) (P.meaning panel.old)
+        ((P.answers panel.old).motion_bytes motion) }
+    ensures lands { Lands P.ready (P.answers panel.old) (P.meaning panel.old) motion
+        (P.meaning panel.new) }
 {
     feed_each(panel, sent);
 }
 
 // Feeds a code. A ready, unheld panel sets the cell at the cursor and takes the after-state.
 pub fn feed_code<P: Panel>(panel: &mut P, code: u8)
-    ensures fixed { answers panel.new ≡ answers panel.old }
-    ensures after { meaning panel.new
-        ≡ fed (answers panel.old) (meaning panel.old) code }
-    ensures prints { Prints ready (answers panel.old) (meaning panel.old) code
-        (meaning panel.new) }
+    ensures fixed { P.answers panel.new ≡ P.answers panel.old }
+    ensures after { P.meaning panel.new
+        ≡ P.fed (P.answers panel.old) (P.meaning panel.old) code }
+    ensures prints { Prints P.ready (P.answers panel.old) (P.meaning panel.old) code
+        (P.meaning panel.new) }
 {
     panel.feed(code);
 }
 
 // Feeds the bytes of a pen. A ready panel sets that pen.
 pub fn feed_pen<P: Panel>(panel: &mut P, pen: u8)
-    ensures fixed { answers panel.new ≡ answers panel.old }
-    ensures after { meaning panel.new
-        ≡ feeds (fed (answers panel.old)) (meaning panel.old)
-        ((answers panel.old).pen_bytes pen) }
-    ensures inks { Inks ready (answers panel.old) (meaning panel.old) pen
-        (meaning panel.new) }
+    ensures fixed { P.answers panel.new ≡ P.answers panel.old }
+    ensures after { P.meaning panel.new
+        ≡ feeds (P.fed (P.answers panel.old)) (P.meaning panel.old)
+        ((P.answers panel.old).pen_bytes pen) }
+    ensures inks { Inks P.ready (P.answers panel.old) (P.meaning panel.old) pen
+        (P.meaning panel.new) }
 {
     let bytes = panel.pen_bytes(pen);
     feed_each(panel, bytes.as_slice());
@@ -80,8 +80,8 @@ pub fn feed_pen<P: Panel>(panel: &mut P, pen: u8)
 // Feeds the wipe bytes, which give one meaning whatever came before: all blanks, the first place, unheld, pen 0,
 // ready.
 pub fn feed_wipe<P: Panel>(panel: &mut P)
-    ensures fixed { answers panel.new ≡ answers panel.old }
-    ensures wipes { meaning panel.new ≡ of (wiped (answers panel.old).size) ready }
+    ensures fixed { P.answers panel.new ≡ P.answers panel.old }
+    ensures wipes { P.meaning panel.new ≡ of (wiped (P.answers panel.old).size) P.ready }
 {
     let bytes = panel.wipe_bytes();
     feed_each(panel, bytes.as_slice());

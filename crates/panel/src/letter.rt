@@ -16,7 +16,7 @@ fn is_printable(code: u8) -> bool
 
 // Whether a code may be printed at a place: an unsafe corner is no such place.
 fn may_print<P: Panel>(panel: &P, place: Place) -> bool
-    ensures { Decides result (Free (answers panel.now) place) }
+    ensures { Decides result (Free (P.answers panel.now) place) }
 {
     let size = panel.size();
     panel.corner_safe() || place.row != size.rows - 1 || place.column != size.columns - 1
@@ -24,10 +24,10 @@ fn may_print<P: Panel>(panel: &P, place: Place) -> bool
 
 // Wipes the panel, moves to a place, sets a pen and prints a code.
 fn print_at<P: Panel>(panel: &mut P, motion: u16, place: Place, pen: u8, code: u8) -> Cursor
-    requires { Possible (answers panel.old) motion pen code place }
-    ensures fixed { answers panel.new ≡ answers panel.old }
-    ensures shown { Shown ready (answers panel.old) motion pen code place
-        (meaning panel.new) result }
+    requires { Possible (P.answers panel.old) motion pen code place }
+    ensures fixed { P.answers panel.new ≡ P.answers panel.old }
+    ensures shown { Shown P.ready (P.answers panel.old) motion pen code place
+        (P.meaning panel.new) result }
 {
     feed_wipe(panel);
     feed_motion(panel, motion);
@@ -40,9 +40,9 @@ fn print_at<P: Panel>(panel: &mut P, motion: u16, place: Place, pen: u8, code: u
 // then stands. Where the motion is not offered there or leads to an unsafe corner, or the panel has no such pen, or
 // the byte is no code, nothing is answered and the panel is left alone.
 pub fn show_letter<P: Panel>(panel: &mut P, motion: u16, pen: u8, code: u8) -> Option<Cursor>
-    ensures fixed { answers panel.new ≡ answers panel.old }
-    ensures shows { Shows ready (answers panel.old) motion pen code (meaning panel.old)
-        (meaning panel.new) result }
+    ensures fixed { P.answers panel.new ≡ P.answers panel.old }
+    ensures shows { Shows P.ready (P.answers panel.old) motion pen code (P.meaning panel.old)
+        (P.meaning panel.new) result }
 {
     let first = Place { row: 0, column: 0 };
     let start = Cursor {
