@@ -15,9 +15,9 @@ returns c =
     let b3 = vec_items c.append_if-3.new.out in
     let x4 : List ℕ = word p 8 (codes " reverse") in
     let b4 = vec_items c.append_if-4.new.out in
-    let e1 = c.in-ok-append_if.ensures in
-    let e2 = then_more start b1 b2 x1 x2 e1 c.in-ok-append_if-2.ensures in
-    let e3 = then_more start b2 b3 (x1 ++ x2) x3 e2 c.in-ok-append_if-3.ensures in
-    let e4 = then_more start b3 b4 ((x1 ++ x2) ++ x3) x4 e3 c.in-ok-append_if-4.ensures in
+    let e1 = c.in_ok-append_if.ensures in
+    let e2 = then_more start b1 b2 x1 x2 e1 c.in_ok-append_if-2.ensures in
+    let e3 = then_more start b2 b3 (x1 ++ x2) x3 e2 c.in_ok-append_if-3.ensures in
+    let e4 = then_more start b3 b4 ((x1 ++ x2) ++ x3) x4 e3 c.in_ok-append_if-4.ensures in
     let joined : ((x1 ++ x2) ++ x3) ++ x4 ≡ pen_words p = simp append_assoc in
     e4 ∙ ap (λ l. start ++ l) joined

@@ -23,13 +23,13 @@ returns g c ready decides =
     let b4 = vec_items c.append_cursor.new.out in
     let b5 = vec_items c.append_pen.new.out in
     let b6 = vec_items c.append_ready.new.out in
-    let e1 = c.in-ok-append_read.ensures in
-    let e2 = then_more start b1 b2 x1 x2 e1 c.in-ok-append_rows.ensures in
-    let e3 = then_more start b2 b3 (x1 ++ x2) x3 e2 c.in-ok-append_pens.ensures in
-    let e4 = then_more start b3 b4 ((x1 ++ x2) ++ x3) x4 e3 c.in-ok-append_cursor.ensures in
-    let e5 = then_more start b4 b5 (((x1 ++ x2) ++ x3) ++ x4) x5 e4 c.in-ok-append_pen.ensures in
+    let e1 = c.in_ok-append_read.ensures in
+    let e2 = then_more start b1 b2 x1 x2 e1 c.in_ok-append_rows.ensures in
+    let e3 = then_more start b2 b3 (x1 ++ x2) x3 e2 c.in_ok-append_pens.ensures in
+    let e4 = then_more start b3 b4 ((x1 ++ x2) ++ x3) x4 e3 c.in_ok-append_cursor.ensures in
+    let e5 = then_more start b4 b5 (((x1 ++ x2) ++ x3) ++ x4) x5 e4 c.in_ok-append_pen.ensures in
     let e6 =
-    then_more start b5 b6 ((((x1 ++ x2) ++ x3) ++ x4) ++ x5) x6 e5 c.in-ok-append_ready.ensures in
+    then_more start b5 b6 ((((x1 ++ x2) ++ x3) ++ x4) ++ x5) x6 e5 c.in_ok-append_ready.ensures in
     let joined : ((((x1 ++ x2) ++ x3) ++ x4) ++ x5) ++ x6 ≡ x1 ++ (x2 ++ (x3 ++ (x4 ++ (x5 ++ x6)))) =
     regrouped x1 x2 x3 x4 x5 x6 in
     let same = same_from_decides c.is_ready.result ready c.is_ready.ensures decides in

@@ -2,10 +2,10 @@
 use Rattle.std.proofs.Common.{arith}
 use Rattle.view.proofs.arguments.asked_panel.Goals as goal
 
-pub returns-in-default-read_number : goal.returns-in-default-read_number
-returns-in-default-read_number c q asked =
-    let few = q.size.rows_most in c.in-default-read_number.ensures q.size.rows (omega arith) asked.rows
+pub returns-in_default-read_number : goal.returns-in_default-read_number
+returns-in_default-read_number c q asked =
+    let few = q.size.rows_most in c.in_default-read_number.ensures q.size.rows (omega arith) asked.rows
 
-pub returns-in-default-read_number-2 : goal.returns-in-default-read_number-2
-returns-in-default-read_number-2 c q asked = let few = q.size.columns_most in c.in-default-read_number-2.ensures
+pub returns-in_default-read_number-2 : goal.returns-in_default-read_number-2
+returns-in_default-read_number-2 c q asked = let few = q.size.columns_most in c.in_default-read_number-2.ensures
     q.size.columns (omega arith) asked.columns

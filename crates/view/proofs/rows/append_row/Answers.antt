@@ -23,7 +23,7 @@ loop-column-preserved g c =
     let within = cell_within (g.P.Panel.answers p).pens s sound.within (place_of c.args.row k) on in
     then_more start (vec_items c.loop-column.out) (vec_items c.append_cell.new.out)
     (map f (take k (drop from s.picture))) (f (get_or s.picture (from + k) blank) ∷ [])
-    c.loop-column.invariant (c.in-ok-append_cell.ensures blank)
+    c.loop-column.invariant (c.in_ok-append_cell.ensures blank)
     ∙ ap (λ l. start ++ l) (sym (row_more f s.picture from k blank within))
 
 pub returns : goal.returns
@@ -40,7 +40,7 @@ returns g c =
     let whole : c.loop-column.column ≡ s.size.columns =
     last ∙ ap (λ (z : Size). z.columns) (c.size-column-end.ensures ∙ sym (g.met.P.Panel.sound p).sized) in
     let one = then_more start (vec_items c.append.new.out) (vec_items c.loop-column.out) bar cells
-    c.in-ok-append.ensures c.loop-column.invariant in
+    c.in_ok-append.ensures c.loop-column.invariant in
     then_more start (vec_items c.loop-column.out) (vec_items c.append-2.new.out) (bar ++ cells) end one
-    c.in-ok-append-2.ensures
+    c.in_ok-append-2.ensures
     ∙ ap (λ n. start ++ (bar ++ (map f (take n (drop from s.picture)) ++ end))) whole

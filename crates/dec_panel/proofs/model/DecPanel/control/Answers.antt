@@ -18,7 +18,7 @@ invariant_of-self-in-10 c =
     let p = c.args.self.now in
     let t = surface c.line_feed.new.self in
     let k = stays p c.args.byte t p.reading (line_fed_read p t c.args.byte c.line_feed.ensures c.in-10.is) in
-    (k.pen, (k.cells, tt))
+    record { inked = k.pen; printed = k.cells }
 
 pub returns-in-10 : goal.returns-in-10
 returns-in-10 c =
@@ -59,8 +59,8 @@ returns-in-24 c =
     let p = c.args.self.now in
     record { fixed = refl; after = sym (ap (fed (meaning_of p)) c.in-24.is ∙ fed_cancel (surface p.canvas) p.reading) }
 
-pub returns-in-default : goal.returns-in-default
-returns-in-default c =
+pub returns-in_default : goal.returns-in_default
+returns-in_default c =
     let p = c.args.self.now in
     record {
       fixed = refl;

@@ -8,6 +8,9 @@ pub invariant_of-result : goal.invariant_of-result
 invariant_of-result c =
     let z = c.args.size in
     let n = z.rows * z.columns in
-    let e = c.in-ok-canvas.ensures in
-    let pen : c.in-ok-canvas.canvas.pen < 16 = omega (arith, ap (λ (s : Surface). s.pen) e) in
-    (pen, (ap (λ (s : Surface). all_printed 16 s.picture) e ∙ (decides_all_printed 16 _).1 (all_blank 16 n (omega arith)), tt))
+    let e = c.in_ok-canvas.ensures in
+    let pen : c.in_ok-canvas.canvas.pen < 16 = omega (arith, ap (λ (s : Surface). s.pen) e) in
+    record {
+      inked = pen;
+      printed = ap (λ (s : Surface). all_printed 16 s.picture) e ∙ (decides_all_printed 16 _).1 (all_blank 16 n (omega arith));
+    }

@@ -49,8 +49,8 @@ returns-in-13 c =
     (c.move_to.ensures ∙ to) in
     record { fixed = f.stays.sized; after = f.after }
 
-pub returns-in-default : goal.returns-in-default
-returns-in-default c =
+pub returns-in_default : goal.returns-in_default
+returns-in_default c =
     let p = c.args.self.now in
     record {
       fixed = refl;

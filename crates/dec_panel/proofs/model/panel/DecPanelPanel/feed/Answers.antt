@@ -41,7 +41,7 @@ invariant_of-self-then-byte-lt127 c =
     let p = c.args.self.now in
     let t = surface c.print.new.canvas in
     let k = stays p c.args.byte t Ground (printing p t c.args.byte c.in-Ground-32-to-126.is-0 (omega arith) (omega arith) c.print.ensures) in
-    (k.pen, (k.cells, tt))
+    record { inked = k.pen; printed = k.cells }
 
 pub invariant_of-self-then-this-lt127-2 : goal.invariant_of-self-then-this-lt127-2
 invariant_of-self-then-this-lt127-2 c =
@@ -49,7 +49,7 @@ invariant_of-self-then-this-lt127-2 c =
     let t = surface c.end_sequence.new.canvas in
     let a = c.in-Sequence-64-to-126 in
     let k = stays p c.args.byte t Ground (ending p a.parameters t c.args.byte a.is-0 (omega arith) (omega arith) c.end_sequence.ensures) in
-    (k.pen, (k.cells, tt))
+    record { inked = k.pen; printed = k.cells }
 
 pub returns-in-Ground-32-to-126 : goal.returns-in-Ground-32-to-126
 returns-in-Ground-32-to-126 c =
@@ -114,8 +114,8 @@ returns-in-Sequence-48-to-57-2 c =
       after = ap (λ q. of s (Sequence q)) (sym (next_dropped a.parameters c.if-parameters-lt8.false)) ∙ separating p a.parameters c.args.byte a.is-0 a.is-1;
     }
 
-pub returns-in-Sequence-48-to-57-2·2 : goal.returns-in-Sequence-48-to-57-2·2
-returns-in-Sequence-48-to-57-2·2 c =
+pub returns-in-Sequence-48-to-57-2-2 : goal.returns-in-Sequence-48-to-57-2-2
+returns-in-Sequence-48-to-57-2-2 c =
     let p = c.args.self.now in
     let s = surface p.canvas in
     let a = c.in-Sequence-48-to-57 in
