@@ -3,7 +3,7 @@ ghost use Rattle.std.specs.Prelude.{◌≡◌, IfOk};
 ghost use Rattle.display.specs.Cell.{Code};
 ghost use Rattle.display.specs.Surface.{wiped};
 ghost use Rattle.panel.specs.Meaning.{of};
-ghost use Rattle.dec_rules.specs.Motions.{answers as Answers-of};
+ghost use Rattle.dec_rules.specs.Motions.{answers as answers_of};
 ghost use Rattle.dec_rules.specs.Rules.{fed as fed_by};
 ghost use Rattle.dec_rules.specs.declared.reading.Reading.{Reading as Readings};
 ghost use Rattle.dec_rules.specs.declared.reading.Reading.TheVariants.{Ground};
@@ -60,7 +60,7 @@ impl Panel for DecPanel {
 
     ghost ready = { Ground };
 
-    ghost answers = { λ p. Answers-of p.canvas.size };
+    ghost answers = { λ p. answers_of p.canvas.size };
 
     ghost meaning = { meaning_of };
 

@@ -4,7 +4,7 @@ ghost use Rattle.display.specs.Cell.{Code};
 ghost use Rattle.display.specs.Surface.{resting, wiped};
 ghost use Rattle.panel.specs.Meaning.{of};
 ghost use Rattle.short_code_panel.specs.Model.{meaning_of};
-ghost use Rattle.short_code_panel.specs.Motions.{answers as Answers-of};
+ghost use Rattle.short_code_panel.specs.Motions.{answers as answers_of};
 ghost use Rattle.short_code_panel.specs.Rules.{fed as fed_by};
 ghost use Rattle.short_code_panel.specs.declared.reading.Reading.{Reading as Readings};
 ghost use Rattle.short_code_panel.specs.declared.reading.Reading.TheVariants.{Ready};
@@ -64,7 +64,7 @@ impl Panel for ShortCodePanel {
 
     ghost ready = { Ready };
 
-    ghost answers = { λ p. Answers-of p.canvas.size };
+    ghost answers = { λ p. answers_of p.canvas.size };
 
     ghost meaning = { meaning_of };
 

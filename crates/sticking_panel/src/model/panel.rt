@@ -4,7 +4,7 @@ ghost use Rattle.display.specs.Cell.{Code};
 ghost use Rattle.display.specs.Surface.{resting, wiped};
 ghost use Rattle.panel.specs.Meaning.{of};
 ghost use Rattle.sticking_panel.specs.Model.{meaning_of};
-ghost use Rattle.sticking_panel.specs.Motions.{answers as Answers-of};
+ghost use Rattle.sticking_panel.specs.Motions.{answers as answers_of};
 ghost use Rattle.sticking_panel.specs.Rules.{Reading, fed as fed_by, ready as always-ready};
 ghost use Rattle.sticking_panel.specs.Laws;
 ghost use Rattle.panel.proofs.Soundness.{sound_of};
@@ -69,7 +69,7 @@ impl Panel for StickingPanel {
 
     ghost ready = { always-ready };
 
-    ghost answers = { λ p. Answers-of p.canvas.size };
+    ghost answers = { λ p. answers_of p.canvas.size };
 
     ghost meaning = { meaning_of };
 

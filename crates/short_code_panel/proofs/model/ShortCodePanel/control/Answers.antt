@@ -19,7 +19,7 @@ pub invariant_of-self-then-byte-lt32 : goal.invariant_of-self-then-byte-lt32
 invariant_of-self-then-byte-lt32 c =
     let f = acting c.args.self.now c.args.byte (surface c.act.new.canvas) (omega arith) (omega arith)
     c.act.ensures in
-    (f.stays.pen, (f.stays.cells, (f.unheld, tt)))
+    record { inked = f.stays.pen; printed = f.stays.cells; unheld = f.unheld }
 
 pub returns-in-27 : goal.returns-in-27
 returns-in-27 c =

@@ -12,7 +12,7 @@ invariant_of-self-in-12 c =
     let p = c.args.self.now in
     let f = acts p c.args.byte 12 (surface c.wipe.new.self) _ c.in-12.is
     (fed_wipe (surface p.canvas)) c.wipe.ensures in
-    (f.stays.pen, (f.stays.cells, (f.unheld, tt)))
+    record { inked = f.stays.pen; printed = f.stays.cells; unheld = f.unheld }
 
 pub returns-in-8 : goal.returns-in-8
 returns-in-8 c =

@@ -8,4 +8,4 @@ pub invariant_of-result : goal.invariant_of-result
 invariant_of-result c =
     let e = c.in_ok-canvas.ensures in
     let k = stays_wiped 1 _ (surface c.in_ok-canvas.canvas) (omega arith) e in
-    (k.pen, (k.cells, (ap (λ (s : Surface). s.cursor.held) e, tt)))
+    record { inked = k.pen; printed = k.cells; unheld = ap (λ (s : Surface). s.cursor.held) e }

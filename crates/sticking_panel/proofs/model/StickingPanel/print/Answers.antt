@@ -18,7 +18,7 @@ pub invariant_of-self : goal.invariant_of-self
 invariant_of-self c =
     let f = printing c.args.self.now c.args.code _ (surface c.draw.new.self) c.requires
     c.draw.ensures c.advance.ensures.after in
-    (f.stays.pen, (f.stays.cells, (f.unheld, tt)))
+    record { inked = f.stays.pen; printed = f.stays.cells; unheld = f.unheld }
 
 pub returns : goal.returns
 returns c =

@@ -32,7 +32,7 @@ pub invariant_of-self-then-byte-lt127 : goal.invariant_of-self-then-byte-lt127
 invariant_of-self-then-byte-lt127 c =
     let f = printing c.args.self.now (surface c.print.new.canvas) c.args.byte
     c.in-Ready-32-to-126.is-0 (omega arith) (omega arith) c.print.ensures in
-    (f.stays.pen, (f.stays.cells, (f.unheld, tt)))
+    record { inked = f.stays.pen; printed = f.stays.cells; unheld = f.unheld }
 
 pub returns-in-Ready-32-to-126 : goal.returns-in-Ready-32-to-126
 returns-in-Ready-32-to-126 c =
