@@ -14,5 +14,5 @@ returns g c d =
     let within =
     cell_within (g.P.Panel.answers p).pens s (g.met.P.Panel.sound p).within c.args.place c.requires in
     let read = get_or_read s.picture i c.in-Some.glyph within c.in-Some.ensures.1 d in
-    pushed (c.cell_byte.result ∷ []) refl c.in_ok-push.was c.push.ensures.items
+    pushed (c.cell_byte.result ∷ []) refl c.in_ok-push-in-Some.was c.push.ensures.items
     ∙ ap (λ b. vec_items c.args.out.now ++ (b ∷ [])) (c.cell_byte.ensures ∙ ap (writes c.args.writing) read)
