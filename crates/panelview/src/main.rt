@@ -7,6 +7,7 @@ use panel::readout::Readout;
 use short_code_panel::model::ShortCodePanel;
 use std::env;
 use std::io::{Read, Write};
+use std::process::ExitCode;
 use sticking_panel::model::StickingPanel;
 use view::input::add_part;
 use view::report::show;
@@ -23,13 +24,13 @@ fn panel_from_arguments(rt: &HostRuntime) -> anyhow::Result<Request> {
         return usable(asked_panel("D", "24", "80"));
     };
     let Some(rows) = words.next() else {
-        return Err(USAGE.into());
+        return Err(anyhow!(USAGE));
     };
     let Some(columns) = words.next() else {
-        return Err(USAGE.into());
+        return Err(anyhow!(USAGE));
     };
     if words.next().is_some() {
-        return Err(USAGE.into());
+        return Err(anyhow!(USAGE));
     }
     usable(asked_panel(kind.as_str(), rows.as_str(), columns.as_str()))
 }
@@ -37,7 +38,7 @@ fn panel_from_arguments(rt: &HostRuntime) -> anyhow::Result<Request> {
 fn usable(request: Option<Request>) -> anyhow::Result<Request> {
     match request {
         Some(request) => Ok(request),
-        None => Err(USAGE.into()),
+        None => Err(anyhow!(USAGE)),
     }
 }
 
@@ -84,10 +85,12 @@ fn run(rt: &HostRuntime) -> anyhow::Result<()> {
     }
 }
 
-fn main(rt: HostRuntime) -> anyhow::Result<()> {
-    let outcome = run(&rt);
-    if let Err(error) = &outcome {
-        eprintln!(rt; "panelview: {error}")?;
+fn main(rt: HostRuntime) -> ExitCode {
+    match run(&rt) {
+        Ok(()) => ExitCode::SUCCESS,
+        Err(error) => {
+            let _told = eprintln!(rt; "panelview: {error}");
+            ExitCode::FAILURE
+        }
     }
-    outcome
 }
