@@ -1,5 +1,5 @@
 -- Lists of glyphs, as a picture changes. Assumes nothing.
-use Rattle.std.proofs.Common.{◌≡◌, ℕ, ◌+◌, ◌-◌, ◌*◌, ◌≤◌, List, ◌++◌, length, take, drop, mul-le-mul_right, arith, length-drop}
+use Rattle.std.proofs.Common.{◌≡◌, ℕ, ◌-◌, ◌*◌, ◌≤◌, List, ◌++◌, length, take, drop, mul-le-mul_right, arith, length-drop}
 use Rattle.std.proofs.lemmas.List.{take_at}
 
 -- a list rotated by n keeps its rest in front

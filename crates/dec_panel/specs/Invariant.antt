@@ -1,5 +1,5 @@
 -- What the model's invariant says of its meaning, and what a step that follows the rules keeps of it. Assumes nothing.
-use Rattle.std.specs.Prelude.{◌≡◌, ℕ, ◌*◌, ◌<◌, true, length}
+use Rattle.std.specs.Prelude.{◌≡◌, ℕ, ◌<◌, true}
 use mathlib.Core.Path.{refl, ap, ◌∙◌, sym}
 use Rattle.display.specs.Surface.{Surface, Within, all_printed}
 use Rattle.display.specs.declared.size.Size.{Size}

@@ -1,18 +1,17 @@
 -- The limits that the answers keep. Assumes nothing.
-use Rattle.std.proofs.Common.{◌≡◌, ℕ, ◌+◌, ◌-◌, ◌*◌, ◌<◌, ◌≤◌, cond, eqb, ltb, leb, List, [], ◌∷◌, ◌++◌, length, Some, None, decimal, Option, sym, refl, ap, ◌∙◌, subst, arith, length-append}
+use Rattle.std.proofs.Common.{◌≡◌, ℕ, ◌+◌, ◌-◌, ◌*◌, ◌<◌, ◌≤◌, cond, eqb, ltb, leb, List, [], ◌∷◌, ◌++◌, length, Some, None, decimal, Option, sym, refl, ap, subst, arith, length-append}
 use lib.Bits.{bit_and}
 use Rattle.std.proofs.lemmas.Nat.{mul-le}
 use Rattle.std.proofs.lemmas.Fmt.{length-decimal-le}
-use Rattle.std.proofs.lemmas.Bool.{cond_both, cond-true, leb-true, lt-ltb, ltb-true}
+use Rattle.std.proofs.lemmas.Bool.{cond_both, cond-true, lt-ltb, ltb-true}
 use Rattle.display.specs.Place.{On}
 use Rattle.display.specs.Surface.{place_of}
 use Rattle.display.specs.declared.place.Cursor.{Cursor}
 use Rattle.display.specs.declared.place.Place.{Place}
 use Rattle.display.specs.declared.size.Size.{Size}
-use Rattle.panel.specs.Answers.{Answers, Bounded}
+use Rattle.panel.specs.Answers.{Bounded}
 use Rattle.dec_rules.specs.Motions.{answers, numbered, of_motion, offered, relative, spelled, takes}
 use Rattle.dec_rules.specs.Pens.{attribute, pen_bytes}
-use Rattle.dec_rules.specs.Rules.{after}
 use Rattle.dec_rules.specs.declared.motion.Motion.{Motion}
 use Rattle.dec_rules.specs.declared.motion.Motion.TheVariants.{Return, Back, Feed, Up, Down, Right, Left, Address}
 use Rattle.dec_rules.proofs.Keeps.{after_on}

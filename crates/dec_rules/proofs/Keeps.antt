@@ -1,6 +1,5 @@
 -- Every byte leads from a meaning that the panel can have to another. Assumes nothing.
-use Rattle.std.proofs.Common.{◌≡◌, ℕ, ◌+◌, ◌-◌, ◌<◌, cond, eqb, ltb, List, [], ◌∷◌, get_or, take, fold, refl, arith}
-use lib.Bits.{bit_or}
+use Rattle.std.proofs.Common.{◌≡◌, ℕ, ◌+◌, ◌-◌, ◌<◌, eqb, ltb, List, [], ◌∷◌, get_or, take, fold, arith}
 use Rattle.std.proofs.lemmas.Nat.{or_lt}
 use Rattle.std.proofs.lemmas.Bool.{cond_both, ltb-true}
 use Rattle.display.specs.Cell.{Code, is_code}
@@ -15,7 +14,7 @@ use Rattle.canvas.proofs.Within.{within_cleared, within_cursor, within_drawn, wi
 use Rattle.panel.specs.Lawful.{Sound}
 use Rattle.panel.specs.Meaning.{Meaning, of}
 use Rattle.dec_rules.specs.Motions.{answers}
-use Rattle.dec_rules.specs.Reading.{digit_read, ended, first, next_read, none, pen_after, pen_by, second}
+use Rattle.dec_rules.specs.Reading.{ended, first, pen_after, pen_by, second}
 use Rattle.dec_rules.specs.Rules.{after, coded, controlled, fed, is_digit, printed, wrapped}
 use Rattle.dec_rules.specs.declared.reading.Parameters.{Parameters}
 use Rattle.dec_rules.specs.declared.reading.Reading.{Reading}

@@ -1,18 +1,18 @@
 -- A panel that follows the rules is lawful, whatever its size. Assumes nothing.
-use Rattle.std.proofs.Common.{◌≡◌, ℕ, zero, suc, ◌-◌, ◌<◌, ◌≤◌, min, false, ◌⊎◌, List, Some, None, Option, sym, refl, ap, ◌∙◌, subst, ap₂, inl, inr, arith}
+use Rattle.std.proofs.Common.{◌≡◌, ℕ, zero, suc, ◌<◌, false, ◌⊎◌, List, Some, None, Option, sym, refl, ap, ◌∙◌, subst, inl, inr, arith}
 use Rattle.std.proofs.lemmas.Bool.{cases_eq, cond-false}
 use Rattle.display.specs.Cell.{Code}
-use Rattle.display.specs.Surface.{Surface, at_cursor, drawn, inked, moved, place_of, wiped}
+use Rattle.display.specs.Surface.{Surface, at_cursor, drawn, inked, moved, wiped}
 use Rattle.display.specs.declared.place.Place.{Place}
 use Rattle.display.specs.declared.size.Size.{Size}
-use Rattle.canvas.specs.Drawing.{cleared, cut, goto}
+use Rattle.canvas.specs.Drawing.{cleared, cut}
 use Rattle.canvas.proofs.Within.{cut_is}
 use Rattle.panel.specs.Lawful.{Lawful, Sound}
 use Rattle.panel.specs.Meaning.{Meaning, feeds, of}
 use Rattle.dec_rules.specs.Motions.{answers, numbered, of_motion, offered, spelled}
 use Rattle.dec_rules.specs.Pens.{pen_bytes, wipe}
 use Rattle.dec_rules.specs.Reading.{ended}
-use Rattle.dec_rules.specs.Rules.{after, coded, controlled, fed, printed, wrapped}
+use Rattle.dec_rules.specs.Rules.{after, coded, controlled, fed, printed}
 use Rattle.dec_rules.specs.declared.motion.Motion.{Motion}
 use Rattle.dec_rules.specs.declared.reading.Reading.{Reading}
 use Rattle.dec_rules.specs.declared.reading.Reading.TheVariants.{Ground}

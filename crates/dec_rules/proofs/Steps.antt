@@ -1,5 +1,5 @@
 -- What the bytes of a control sequence do, one after the other. Assumes nothing.
-use Rattle.std.proofs.Common.{◌≡◌, ℕ, ◌+◌, ◌-◌, ◌*◌, ◌/◌, ◌%◌, ◌<◌, ◌≤◌, min, max, true, false, cond, eqb, ltb, leb, ◌⊎◌, List, [], ◌∷◌, ◌++◌, length, get_or, set, decimal, sym, refl, ap, ◌∙◌, inl, inr, arith}
+use Rattle.std.proofs.Common.{◌≡◌, ℕ, ◌+◌, ◌-◌, ◌*◌, ◌/◌, ◌%◌, ◌<◌, ◌≤◌, min, max, false, cond, eqb, ltb, leb, ◌⊎◌, List, [], ◌∷◌, ◌++◌, length, get_or, set, decimal, sym, refl, ap, ◌∙◌, inl, inr, arith}
 use Rattle.std.proofs.lemmas.Fmt.{decimal_digit, decimal_step}
 use Rattle.std.proofs.lemmas.List.{get_or-set_same, set-set}
 use Rattle.std.proofs.lemmas.Bool.{and_from, and_left, and_right, cases_eq, cases_lt, cond-false, cond-true, eq-eqb, le-leb, le-ltb, lt-leb, lt-ltb, ne_eqb}
@@ -7,7 +7,7 @@ use Rattle.display.specs.Cell.{Code, is_code}
 use Rattle.display.specs.Surface.{Surface}
 use Rattle.display.proofs.Codes.{code_true, not_code}
 use Rattle.canvas.specs.Drawing.{goto, line_fed}
-use Rattle.panel.specs.Meaning.{Meaning, feeds, of}
+use Rattle.panel.specs.Meaning.{feeds, of}
 use Rattle.panel.proofs.Feeds.{feeds_append}
 use Rattle.dec_rules.specs.Reading.{digit_read, ended, first, next_read, none, valued}
 use Rattle.dec_rules.specs.Rules.{coded, controlled, fed, is_digit, printed}

@@ -1,7 +1,7 @@
 -- The bytes that set a pen, and the wipe bytes.
 --     pen_bytes p    ESC [ 0, then ;1 ;4 ;5 ;7 for bold, underscore, blink, reverse, then m
 --     wipe           pen 0, the first place, and all cells blank: ESC [ 0 m, ESC [ H, ESC [ 2 J
-use Rattle.std.specs.Prelude.{ℕ, Bool, cond, List, [], ◌∷◌, ◌++◌, ◌==◌, bit_and}
+use Rattle.std.specs.Prelude.{ℕ, cond, List, [], ◌∷◌, ◌++◌, ◌==◌, bit_and}
 
 -- the parameter v, if the pen p has the bit
 abbrev pub attribute : ℕ → ℕ → ℕ → List ℕ

@@ -6,7 +6,7 @@
 --     pen_after p v    the pen p after the parameter v: 0 sets pen 0; 1, 4, 5, 7 set bold, underscore, blink, reverse
 --     pen_by p ps      the pen p after all parameters in their order
 --     ended s ps b     the surface s after a sequence with the parameters ps that ends with the byte b
-use Rattle.std.specs.Prelude.{ℕ, ◌+◌, ◌-◌, ◌*◌, min, max, cond, List, take, set, replicate, fold, ◌==◌, bit_or, nat_lt, slice_index, slice_set}
+use Rattle.std.specs.Prelude.{ℕ, ◌+◌, ◌-◌, ◌*◌, min, max, cond, take, replicate, fold, ◌==◌, bit_or, nat_lt, slice_index, slice_set}
 use Rattle.display.specs.Surface.{Surface, inked, moved}
 use Rattle.canvas.specs.Drawing.{cleared, goto}
 use Rattle.dec_rules.specs.declared.reading.Parameters.{Parameters}

@@ -5,7 +5,7 @@
 --     coded s r b       the byte b is a code, 20h to 7Eh
 --     controlled s r b  the byte b is no code
 --     fed m b           the meaning m after the byte b
-use Rattle.std.specs.Prelude.{ℕ, ◌+◌, ◌-◌, Bool, true, false, cond, ◌&&◌, ◌==◌, nat_le, nat_lt}
+use Rattle.std.specs.Prelude.{ℕ, ◌+◌, ◌-◌, Bool, true, cond, ◌&&◌, ◌==◌, nat_le, nat_lt}
 use Rattle.display.specs.Cell.{is_code}
 use Rattle.display.specs.Surface.{Surface, at_cursor, drawn, place_of, resting}
 use Rattle.display.specs.declared.place.Cursor.{Cursor}

@@ -14,7 +14,7 @@
 --     Told s p o     what is told of the cell at p: its glyph, or that there is no such place
 --     Within P s     s is one that a panel with P pens can have
 --     Fits P z s     s is one that a panel of size z with P pens can have
-use Rattle.std.specs.Prelude.{◌≡◌, ℕ, ◌+◌, ◌-◌, ◌*◌, ◌<◌, Bool, true, false, cond, ◌&&◌, List, [], ◌∷◌, length, set, replicate, Some, None, Option, nat_lt, slice_index_or, slice_set}
+use Rattle.std.specs.Prelude.{◌≡◌, ℕ, ◌+◌, ◌-◌, ◌*◌, ◌<◌, Bool, true, false, cond, ◌&&◌, List, [], ◌∷◌, length, replicate, Some, None, Option, nat_lt, slice_index_or, slice_set}
 use Rattle.std.specs.List.{AllByRecursion as All}
 use Rattle.display.specs.Cell.{Code, blank, glyph_of, is_code}
 use Rattle.display.specs.Place.{On, number}

@@ -7,7 +7,7 @@
 --                        nothing else has changed
 --     Inks r a m p m'    one that is ready, fed the bytes of the pen p, has set that pen, and nothing else has changed
 --     Lawful r a f       the laws of a panel with the answers a, the step f of one byte, and the reading state r in which it is ready
-use Rattle.std.specs.Prelude.{◌≡◌, ℕ, ◌<◌, Bool, true, false, Some, ◌≢◌}
+use Rattle.std.specs.Prelude.{◌≡◌, ℕ, ◌<◌, false, Some, ◌≢◌}
 use Rattle.display.specs.Cell.{Code}
 use Rattle.display.specs.Surface.{Surface, Within, at_cursor, corner, drawn, inked, moved, wiped}
 use Rattle.display.specs.declared.place.Place.{Place}

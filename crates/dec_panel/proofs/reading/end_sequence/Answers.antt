@@ -1,9 +1,9 @@
 -- Each end is the rule book's, at the byte that the arm is for.
-use Rattle.std.proofs.Common.{◌≡◌, ℕ, ◌+◌, ◌-◌, sym, ap, ◌∙◌, ap₂, arith}
+use Rattle.std.proofs.Common.{ℕ, ◌+◌, ◌-◌, sym, ap, ◌∙◌, ap₂, arith}
 use Rattle.display.specs.Surface.{inked}
 use Rattle.display.specs.declared.place.Cursor.{Cursor}
 use Rattle.canvas.specs.Drawing.{goto, surface}
-use Rattle.dec_rules.specs.Reading.{ended, first, pen_by, second}
+use Rattle.dec_rules.specs.Reading.{ended, pen_by}
 use Rattle.dec_rules.proofs.Ends.{ended_clear, ended_down, ended_home, ended_keep, ended_left, ended_other, ended_pen, ended_right, ended_up}
 use Rattle.dec_panel.proofs.reading.end_sequence.Goals as goal
 

@@ -1,4 +1,4 @@
-use Rattle.std.proofs.Common.{◌≡◌, ◌+◌, ◌≤◌, length, take, fold}
+use Rattle.std.proofs.Common.{◌≡◌, ◌≤◌, length, take, fold}
 use Rattle.dec_rules.specs.Reading.{pen_after}
 use Rattle.dec_panel.proofs.reading.pen_by.Given as goal
 

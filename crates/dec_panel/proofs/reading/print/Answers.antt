@@ -1,4 +1,4 @@
-use Rattle.std.proofs.Common.{◌≡◌, sym, ap, ◌∙◌}
+use Rattle.std.proofs.Common.{ap, ◌∙◌}
 use Rattle.display.specs.Surface.{Surface, at_cursor, drawn}
 use Rattle.dec_rules.specs.Rules.{after, printed}
 use Rattle.dec_panel.proofs.reading.print.Goals as goal

@@ -1,4 +1,4 @@
-use Rattle.std.proofs.Common.{◌≡◌, ◌*◌, ◌<◌, ap, ◌∙◌, arith}
+use Rattle.std.proofs.Common.{◌*◌, ◌<◌, ap, ◌∙◌, arith}
 use Rattle.display.specs.Surface.{Surface, all_printed}
 use Rattle.display.proofs.Codes.{decides_all_printed}
 use Rattle.canvas.proofs.Within.{all_blank}

@@ -5,7 +5,7 @@ use Rattle.display.specs.Surface.{Surface}
 use Rattle.canvas.specs.Drawing.{surface}
 use Rattle.panel.specs.Meaning.{of}
 use Rattle.dec_rules.specs.Motions.{answers}
-use Rattle.dec_rules.specs.Reading.{digit_read, ended, next_read}
+use Rattle.dec_rules.specs.Reading.{ended, next_read}
 use Rattle.dec_rules.specs.Rules.{fed, printed}
 use Rattle.dec_rules.specs.declared.reading.Parameters.{Parameters}
 use Rattle.dec_rules.specs.declared.reading.Reading.{Reading}

@@ -1,5 +1,5 @@
 -- Each arm is the rule of its reading state and byte.
-use Rattle.std.proofs.Common.{◌≡◌, ℕ, ◌-◌, ◌≤◌, sym, refl, ap, ◌∙◌, arith}
+use Rattle.std.proofs.Common.{◌≡◌, ℕ, ◌≤◌, sym, refl, ap, ◌∙◌, arith}
 use Rattle.display.specs.Cell.{Code}
 use Rattle.display.specs.Surface.{Surface}
 use Rattle.canvas.specs.Drawing.{surface}
