@@ -4,7 +4,7 @@ use Rattle.std.proofs.Common.{◌≡◌, ℕ, zero, suc, ◌+◌, ◌-◌, ◌*�
 use lib.ListN.{length-replicate}
 use Rattle.std.proofs.ByRecursion.{All-append, All-drop, All-set}
 use Rattle.std.proofs.lemmas.Bool.{cond_both, ltb-true}
-use Rattle.std.specs.List.{AllByRecursion as All}
+use Rattle.std.specs.List.{AllByRecursion}
 use Rattle.display.specs.Cell.{Code, blank, glyph_of}
 use Rattle.display.specs.Place.{On, number}
 use Rattle.display.specs.Surface.{Printed, Surface, Within, at_cursor, drawn, inked, moved, place_of, resting}
@@ -29,7 +29,7 @@ cut_is z r c h w =
 pub goto_is : (s : Surface) (r c : ℕ) → r < s.size.rows → c < s.size.columns → goto s r c ≡ moved s (place_of r c)
 goto_is s r c h w = ap (moved s) (cut_is s.size r c h w)
 
-pub all_blank : (P n : ℕ) → 0 < P → All (Printed P) (replicate n blank)
+pub all_blank : (P n : ℕ) → 0 < P → AllByRecursion (Printed P) (replicate n blank)
 all_blank P zero h = tt
 all_blank P (suc n) h =
     (record { code = record { least = omega arith; most = omega arith }; pen = h }, all_blank P n h)

@@ -6,7 +6,7 @@ ghost use Rattle.canvas.specs.Drawing.{surface};
 use canvas::canvas::Canvas;
 use dec_rules::reading::Reading;
 
-pub mod panel;
+pub mod panel_impl;
 pub mod readout;
 
 #[derive(Drop)]

@@ -1,6 +1,6 @@
 -- The tests for a printable code and for a picture of them. Assumes nothing.
 use Rattle.std.proofs.Common.{◌≡◌, ℕ, Bool, true, false, ltb, leb, List, Decides, refl}
-use Rattle.std.specs.List.{AllByRecursion as All}
+use Rattle.std.specs.List.{AllByRecursion}
 use Rattle.std.proofs.lemmas.Bool.{and_from, and_parts, le-leb, leb-true}
 use Rattle.std.proofs.lemmas.Bool.Decides.{Decides-and, Decides-like, Decides-ltb}
 use Rattle.std.proofs.ByRecursion.{Decides-by_and}
@@ -32,6 +32,6 @@ decides_printed P g =
     (Decides-and (is_code g.code) (ltb g.pen P) (decides_code g.code) (Decides-ltb g.pen P))
 
 -- the test of a picture says that every cell is a printable code in one of the pens
-pub decides_all_printed : (P : ℕ) (gs : List Glyph) → Decides (all_printed P gs) (All (Printed P) gs)
+pub decides_all_printed : (P : ℕ) (gs : List Glyph) → Decides (all_printed P gs) (AllByRecursion (Printed P) gs)
 decides_all_printed P gs =
     Decides-by_and (is_printed P) (Printed P) (all_printed P) (decides_printed P) refl (λ _ _. refl) gs

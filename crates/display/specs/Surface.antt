@@ -15,7 +15,7 @@
 --     Within P s     s is one that a panel with P pens can have
 --     Fits P z s     s is one that a panel of size z with P pens can have
 use Rattle.std.specs.Prelude.{◌≡◌, ℕ, ◌+◌, ◌-◌, ◌*◌, ◌<◌, Bool, true, false, cond, ◌&&◌, List, [], ◌∷◌, length, replicate, Some, None, Option, nat_lt, slice_index_or, slice_set}
-use Rattle.std.specs.List.{AllByRecursion as All}
+use Rattle.std.specs.List.{AllByRecursion}
 use Rattle.display.specs.Cell.{Code, blank, glyph_of, is_code}
 use Rattle.display.specs.Place.{On, number}
 use Rattle.display.specs.declared.cell.Glyph.{Glyph}
@@ -80,7 +80,7 @@ all_printed P (g ∷ gs) = is_printed P g && all_printed P gs
 
 pub record Within (P : ℕ) (s : Surface) : Type 0 where
   pub filled : length s.picture ≡ s.size.rows * s.size.columns
-  pub cells : All (Printed P) s.picture
+  pub cells : AllByRecursion (Printed P) s.picture
   pub place : On s.size s.cursor.place
   pub pen : s.pen < P
 

@@ -22,7 +22,7 @@ fn panels_that_are_asked_for(rt: HostRuntime) -> Result<(), Fail> {
 }
 
 #[test]
-fn words_that_ask_for_none(rt: HostRuntime) {
+fn words_that_ask_for_no_panel(rt: HostRuntime) {
     for (kind, rows, columns) in [
         ("d", "24", "80"),
         ("E", "24", "80"),

@@ -6,7 +6,7 @@ ghost use Rattle.canvas.specs.Drawing.{surface};
 use crate::reading::Reading;
 use canvas::canvas::Canvas;
 
-pub mod panel;
+pub mod panel_impl;
 pub mod readout;
 
 #[derive(Drop)]

@@ -5,7 +5,7 @@ ghost use Rattle.canvas.specs.Drawing.{surface};
 
 use canvas::canvas::Canvas;
 
-pub mod panel;
+pub mod panel_impl;
 pub mod readout;
 
 #[derive(Drop)]

@@ -1,6 +1,6 @@
 -- Cells by their numbers, and rows one after the other. Assumes nothing.
 use Rattle.std.proofs.Common.{◌≡◌, ℕ, ◌+◌, ◌<◌, Bool, true, false, eqb, List, [], ◌∷◌, ◌++◌, map, length, get_or, take, drop, Decides, sym, refl, ap, ◌∙◌, arith, length-drop}
-use Rattle.std.specs.List.{range_with_len, flat_map, AllByRecursion as All}
+use Rattle.std.specs.List.{range_with_len, flat_map, AllByRecursion}
 use Rattle.std.proofs.lemmas.List.FromFn.{map-range_with_len_more}
 use Rattle.std.proofs.ByRecursion.{All-from_get_or, All-get_or, Decides-by_and}
 use Rattle.std.proofs.lemmas.List.{get_or-drop, flat_map_more, map-id, map_push, take_more}
@@ -37,7 +37,7 @@ pub rows_more : (f : ℕ → List ℕ) (start : List ℕ) (n : ℕ)
     → (start ++ flat_map f (range_with_len 0 n)) ++ f n ≡ start ++ flat_map f (range_with_len 0 (n + 1))
 rows_more f start n = flat_map_more f start (range_with_len 0 n) n ∙ ap (λ l. start ++ flat_map f l) (sym (counting_more n))
 
-decides_plain : (gs : List Glyph) → Decides (plain gs) (All (λ (g : Glyph). g.pen ≡ 0) gs)
+decides_plain : (gs : List Glyph) → Decides (plain gs) (AllByRecursion (λ (g : Glyph). g.pen ≡ 0) gs)
 decides_plain gs =
     Decides-by_and (λ g. eqb g.pen 0) (λ g. g.pen ≡ 0) plain (λ g. Decides-eqb g.pen 0) refl (λ _ _. refl) gs
 

@@ -32,8 +32,7 @@ pub(crate) fn append_read(out: &mut Vec<u8>, heap: Global, n: usize) -> Result<(
 
 // Some bytes, if a test holds.
 fn append_if(out: &mut Vec<u8>, test: bool, bytes: &[u8]) -> Result<(), AllocError>
-    ensures { IfOk result
-        (λ _. out.new.items ≡ out.old.items ++ (if test then bytes.now else [])) }
+    ensures { OnOk result (out.new.items ≡ out.old.items ++ (if test then bytes.now else [])) }
 {
     if test {
         return append(out, bytes);

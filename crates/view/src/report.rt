@@ -1,5 +1,5 @@
 // The whole report.
-ghost use Rattle.std.specs.Prelude.{◌≡◌, Bool, cond, [], ◌++◌, length, IfOk, Decides};
+ghost use Rattle.std.specs.Prelude.{◌≡◌, Bool, if◌then◌else◌, [], ◌++◌, length, IfOk, OnOk, Decides};
 ghost use Rattle.panel.specs.Meaning.{feeds};
 ghost use Rattle.view.specs.Report.{Reports, pen_digit, plain, reported, rows_of};
 
@@ -11,10 +11,9 @@ use std::alloc::{AllocError, Global};
 
 // The rows of the pens, where some cell has a pen other than 0.
 fn append_pens<P: Readout>(out: &mut Vec<u8>, panel: &P) -> Result<(), AllocError>
-    ensures { IfOk result
-        (λ _. out.new.items ≡ out.old.items
-        ++ cond (plain (P.Panel.meaning panel.now).surface.picture) []
-        (rows_of pen_digit (P.Panel.meaning panel.now).surface)) }
+    ensures { OnOk result (out.new.items ≡ out.old.items
+        ++ (if plain (P.Panel.meaning panel.now).surface.picture then []
+        else rows_of pen_digit (P.Panel.meaning panel.now).surface)) }
 {
     if is_plain(panel) {
         return Ok(());
@@ -29,8 +28,8 @@ fn append_report<P: Readout>(
     panel: &P,
     read: usize,
 ) -> Result<(), AllocError>
-    ensures { IfOk result
-        (λ _. (ready : Bool) → Decides ready ((P.Panel.meaning panel.now).mode ≡ P.Panel.ready)
+    ensures { OnOk result
+        ((ready : Bool) → Decides ready ((P.Panel.meaning panel.now).mode ≡ P.Panel.ready)
         → out.new.items ≡ out.old.items
         ++ reported read (P.Panel.meaning panel.now).surface ready) }
 {

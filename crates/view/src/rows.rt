@@ -1,5 +1,5 @@
 // The rows of a picture.
-ghost use Rattle.std.specs.Prelude.{◌≡◌, ◌*◌, ◌<◌, [], ◌∷◌, ◌++◌, IfOk, slice_index_or};
+ghost use Rattle.std.specs.Prelude.{◌≡◌, ◌*◌, ◌<◌, [], ◌∷◌, ◌++◌, IfOk, OnOk, slice_index_or};
 ghost use Rattle.display.specs.Cell.{blank};
 ghost use Rattle.display.specs.Place.{On, number};
 ghost use Rattle.display.specs.declared.cell.Glyph.{Glyph as Cell};
@@ -42,8 +42,8 @@ fn append_cell<P: Readout>(
     writing: Writing,
 ) -> Result<(), AllocError>
     requires { On (P.Panel.meaning panel.now).surface.size place }
-    ensures { IfOk result
-        (λ _. (d : Cell)
+    ensures { OnOk result
+        ((d : Cell)
         → out.new.items ≡ out.old.items
         ++ (writes writing (slice_index_or (P.Panel.meaning panel.now).surface.picture
         (number (P.Panel.meaning panel.now).surface.size place) d) ∷ [])) }
@@ -65,8 +65,8 @@ fn append_row<P: Readout>(
     writing: Writing,
 ) -> Result<(), AllocError>
     requires { row < (P.Panel.meaning panel.now).surface.size.rows }
-    ensures { IfOk result
-        (λ _. out.new.items ≡ out.old.items
+    ensures { OnOk result
+        (out.new.items ≡ out.old.items
         ++ barred (row_of (writes writing) (P.Panel.meaning panel.now).surface row)) }
 {
     append(out, b"|")?;
@@ -83,8 +83,8 @@ pub(crate) fn append_rows<P: Readout>(
     panel: &P,
     writing: Writing,
 ) -> Result<(), AllocError>
-    ensures { IfOk result
-        (λ _. out.new.items ≡ out.old.items
+    ensures { OnOk result
+        (out.new.items ≡ out.old.items
         ++ rows_of (writes writing) (P.Panel.meaning panel.now).surface) }
 {
     for row in 0..panel.size().rows {

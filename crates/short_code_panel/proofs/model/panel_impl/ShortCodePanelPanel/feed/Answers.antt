@@ -12,7 +12,7 @@ use Rattle.short_code_panel.specs.declared.reading.Reading.{Reading}
 use Rattle.short_code_panel.specs.declared.reading.Reading.TheVariants.{Ready, Escape, Row, Column}
 use Rattle.short_code_panel.specs.Invariant.{Follows, follows}
 use Rattle.short_code_panel.specs.Steps.{fed_column, fed_equals, fed_other_escape, fed_ready, fed_row}
-use Rattle.short_code_panel.proofs.model.panel.ShortCodePanelPanel.feed.Goals as goal
+use Rattle.short_code_panel.proofs.model.panel_impl.ShortCodePanelPanel.feed.Goals as goal
 
 -- the step of a panel whose reading state is known
 in_state : (p : ShortCodePanel) (r : Reading) (b : ℕ) → p.reading ≡ r

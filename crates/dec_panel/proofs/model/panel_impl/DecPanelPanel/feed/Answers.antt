@@ -14,7 +14,7 @@ use Rattle.dec_rules.proofs.Steps.{digit_dropped, fed_end, fed_ground, fed_inter
 use Rattle.dec_panel.specs.Model.{meaning_of}
 use Rattle.dec_panel.specs.declared.model.DecPanel.{DecPanel}
 use Rattle.dec_panel.specs.Invariant.{stays}
-use Rattle.dec_panel.proofs.model.panel.DecPanelPanel.feed.Goals as goal
+use Rattle.dec_panel.proofs.model.panel_impl.DecPanelPanel.feed.Goals as goal
 
 -- the step of a panel whose reading state is known
 in_state : (p : DecPanel) (r : Reading) (b : ℕ) → p.reading ≡ r → fed (of (surface p.canvas) r) b ≡ fed (meaning_of p) b
