@@ -1,6 +1,6 @@
 -- Lists of glyphs, as a picture changes. Assumes nothing.
-use Rattle.std.proofs.Common.{◌≡◌, ℕ, ◌-◌, ◌*◌, ◌≤◌, List, ◌++◌, length, take, drop, mul-le-mul_right, arith, length-drop}
-use Rattle.std.proofs.lemmas.List.{take_at}
+use Rattle.std.proofs.Common.{◌≡◌, ℕ, ◌*◌, ◌-◌, ◌≤◌, List, ◌++◌, length, take, drop, rules}
+use Rattle.std.proofs.lemmas.List.{length-drop, take_at}
 
 -- a list rotated by n keeps its rest in front
 pub rotated_front : {X : Type 0} (n : ℕ) (xs : List X) → n ≤ length xs
@@ -9,4 +9,4 @@ rotated_front n xs h = take_at (drop n xs) (take n xs) (length xs - n) (length-d
 
 -- a row is no longer than the picture
 pub row_within : (rows columns : ℕ) → 1 ≤ rows → columns ≤ rows * columns
-row_within rows columns h = omega (arith, mul-le-mul_right columns h)
+row_within rows columns h = search rules

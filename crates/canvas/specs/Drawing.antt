@@ -1,5 +1,4 @@
 -- What the models of panels do alike.
---     surface c       the surface that the canvas c holds
 --     cut z r c       row r and column c, or the edge of a panel of size z where they lie beyond it
 --     goto s r c      the cursor goes there, unheld
 --     went s o        the cursor goes to the place o, unheld, if there is one
@@ -11,15 +10,11 @@
 --                     instead
 --     onward s t      the cursor goes a column to the right, unheld; in the last column the surface is t
 --     cleared s       every cell is blank
-use Rattle.std.specs.Prelude.{ℕ, ◌+◌, ◌-◌, min, true, cond, ◌++◌, drop, replicate, Some, None, vec_items, Option, nat_lt}
+use Rattle.std.specs.Prelude.{ℕ, ◌+◌, ◌-◌, min, true, cond, ◌++◌, drop, replicate, Some, None, Option, nat_lt}
 use Rattle.display.specs.Cell.{blank}
 use Rattle.display.specs.Surface.{Surface, at_cursor, blanks, moved, pictured, place_of}
 use Rattle.display.specs.declared.place.Place.{Place}
 use Rattle.display.specs.declared.size.Size.{Size}
-use Rattle.canvas.specs.declared.canvas.Canvas.{Canvas}
-
-abbrev pub surface : Canvas → Surface
-surface c = record { size = c.size; picture = vec_items c.cells; cursor = c.cursor; pen = c.pen }
 
 abbrev pub cut : Size → ℕ → ℕ → Place
 cut z r c = place_of (min r (z.rows - 1)) (min c (z.columns - 1))

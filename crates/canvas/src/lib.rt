@@ -2,5 +2,4 @@
 // Nothing is allocated once a canvas is made.
 #![tactic(auto)]
 
-mod blanks;
 pub mod canvas;

@@ -3,6 +3,5 @@
 #![tactic(auto)]
 
 pub mod model;
-mod motions;
 mod reading;
 mod spelling;

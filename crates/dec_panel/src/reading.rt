@@ -1,22 +1,12 @@
 // What the bytes of codes and sequences do.
 ghost use Rattle.std.specs.Prelude.{◌≡◌, ◌<◌};
-ghost use Rattle.display.specs.Surface.{at_cursor};
-ghost use Rattle.canvas.specs.Drawing.{surface};
-ghost use Rattle.dec_rules.specs.Reading.{digit_read, ended, none, pen_after as after_parameter, pen_by as after_parameters};
-ghost use Rattle.dec_rules.specs.Rules.{after, printed, wrapped};
+ghost use Rattle.dec_rules.specs.Reading.{digit_read, ended, pen_after as after_parameter, pen_by as after_parameters};
+ghost use Rattle.dec_rules.specs.Rules.{fed, printed};
+ghost use Rattle.display.specs.Cell.{Code};
+ghost use Rattle.panel.specs.Meaning.{of};
 
 use canvas::canvas::Canvas;
-use dec_rules::reading::Parameters;
-
-// No parameter is read yet.
-pub(crate) fn no_parameter() -> Parameters
-    ensures { result ≡ none }
-{
-    Parameters {
-        values: [0; 8],
-        at: 0,
-    }
-}
+use dec_rules::reading::{Parameters, Reading};
 
 // A digit joins the parameter being read. A value above 999 counts as 999.
 pub(crate) fn read_digit(parameters: &mut Parameters, digit: u8)
@@ -28,37 +18,18 @@ pub(crate) fn read_digit(parameters: &mut Parameters, digit: u8)
     parameters.values[at] = value.min(999) as u16;
 }
 
-// A pending wrap takes place: a held cursor goes to column 0 of the next row.
-fn wrap(canvas: &mut Canvas)
-    ensures { surface canvas.new ≡ wrapped (surface canvas.old) }
+// Prints a code, once a pending wrap has taken place: the cursor goes a column on, or is held in the last one.
+#[tactic(auto, using(canvas::proofs::Arrivals::onward_stepped), unfolding(dec_rules::specs::Rules::printed))]
+pub(crate) fn print(canvas: &mut Canvas, code: u8)
+    ensures { canvas.new ≡ printed canvas.old code }
 {
-    let start = canvas.cursor();
-    if start.held {
-        canvas.move_to(start.place.row as usize, 0);
-        canvas.line_feed();
+    if canvas.cursor().held {
+        canvas.new_line();
     }
-}
-
-// The cursor goes a column on, or is held in the last one.
-fn advance(canvas: &mut Canvas)
-    ensures { surface canvas.new ≡ at_cursor (surface canvas.old) (after (surface canvas.old).size (surface canvas.old).cursor.place) }
-{
-    let place = canvas.cursor().place;
-    let column = place.column as usize + 1;
-    if column < canvas.size().columns as usize {
-        canvas.move_to(place.row as usize, column);
-    } else {
+    canvas.draw(code);
+    if !canvas.advance() {
         canvas.hold();
     }
-}
-
-// Prints a code.
-pub(crate) fn print(canvas: &mut Canvas, code: u8)
-    ensures { surface canvas.new ≡ printed (surface canvas.old) code }
-{
-    wrap(canvas);
-    canvas.draw(code);
-    advance(canvas);
 }
 
 // The pen after one parameter of the end m.
@@ -79,17 +50,16 @@ fn pen_after(pen: u8, parameter: u16) -> u8
 fn pen_by(pen: u8, parameters: &Parameters) -> u8
     ensures { result ≡ after_parameters pen parameters.now }
 {
-    let mut result = pen;
     let read = parameters.at.min(7) + 1;
-    for value in &parameters.values[0..read] {
-        result = pen_after(result, *value);
-    }
-    result
+    parameters.values[..read]
+        .iter()
+        .fold(pen, |pen, value| pen_after(pen, *value))
 }
 
 // Does what the end of a sequence says.
+#[tactic(auto, unfolding(dec_rules::specs::Reading::ended))]
 pub(crate) fn end_sequence(canvas: &mut Canvas, parameters: &Parameters, end: u8)
-    ensures { surface canvas.new ≡ ended (surface canvas.old) parameters.now end }
+    ensures { canvas.new ≡ ended canvas.old parameters.now end }
 {
     let place = canvas.cursor().place;
     let row = place.row as usize;
@@ -107,6 +77,25 @@ pub(crate) fn end_sequence(canvas: &mut Canvas, parameters: &Parameters, end: u8
             let pen = pen_by(canvas.pen(), parameters);
             canvas.set_pen(pen);
         }
+        _ => {}
+    }
+}
+
+// A control byte, which acts in every reading state. Most do nothing.
+#[tactic(auto, unfolding(dec_rules::specs::Rules::fed, dec_rules::specs::Rules::controlled))]
+pub(crate) fn control(canvas: &mut Canvas, reading: &mut Reading, byte: u8)
+    requires { Code byte → ⊥ }
+    ensures { of canvas.new reading.new ≡ fed (of canvas.old reading.old) byte }
+{
+    let place = canvas.cursor().place;
+    let row = place.row as usize;
+    let column = place.column as usize;
+    match byte {
+        0x08 => canvas.move_to(row, column.saturating_sub(1)),
+        0x0A => canvas.line_feed(),
+        0x0D => canvas.move_to(row, 0),
+        0x1B => *reading = Reading::Escape,
+        0x18 => *reading = Reading::Ground,
         _ => {}
     }
 }

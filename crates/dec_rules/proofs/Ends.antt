@@ -1,6 +1,5 @@
 -- The ends of a sequence, one by one. Assumes nothing.
-use Rattle.std.proofs.Common.{◌≡◌, ℕ, ◌+◌, ◌-◌, eqb, get_or, refl, ◌∙◌}
-use Rattle.std.proofs.lemmas.Bool.{cond-false, cond-true, eq-eqb, ne_eqb}
+use Rattle.std.proofs.Common.{◌≡◌, ℕ, ◌+◌, ◌-◌, get_or, refl, rules}
 use Rattle.display.specs.Surface.{Surface, inked, moved}
 use Rattle.canvas.specs.Drawing.{cleared, goto}
 use Rattle.dec_rules.specs.Reading.{ended, first, pen_by, second}
@@ -29,24 +28,18 @@ module _ (s : Surface) (ps : Parameters) where
 
   pub ended_clear : get_or ps.values 0 0 ≡ 2 → ended s ps 0x4a ≡ moved (cleared s) s.cursor.place
   unfolding ended
-  ended_clear e = cond-true (eqb (get_or ps.values 0 0) 2) _ s (eq-eqb (get_or ps.values 0 0) 2 e)
+  ended_clear e = search rules
 
   pub ended_keep : (get_or ps.values 0 0 ≡ 2 → ⊥) → ended s ps 0x4a ≡ s
   unfolding ended
-  ended_keep ne = cond-false (eqb (get_or ps.values 0 0) 2) _ s (ne_eqb (get_or ps.values 0 0) 2 ne)
+  ended_keep ne = search rules
 
   pub ended_pen : ended s ps 0x6d ≡ inked s (pen_by s.pen ps)
   unfolding ended
   ended_pen = refl
 
   -- every other end does nothing
-  pub ended_other : (b : ℕ) → (b ≡ 0x41 → ⊥) → (b ≡ 0x42 → ⊥) → (b ≡ 0x43 → ⊥) → (b ≡ 0x44 → ⊥) → (b ≡ 0x48 → ⊥) → (b ≡ 0x4a → ⊥) → (b ≡ 0x6d → ⊥) → ended s ps b ≡ s
+  pub ended_other : (b : ℕ) → (b ≡ 0x41 → ⊥) → (b ≡ 0x42 → ⊥) → (b ≡ 0x43 → ⊥) → (b ≡ 0x44 → ⊥) → (b ≡ 0x48 → ⊥)
+      → (b ≡ 0x4a → ⊥) → (b ≡ 0x6d → ⊥) → ended s ps b ≡ s
   unfolding ended
-  ended_other b a up down left home clear pen =
-      cond-false (eqb b 0x41) _ _ (ne_eqb b 0x41 a)
-      ∙ cond-false (eqb b 0x42) _ _ (ne_eqb b 0x42 up)
-      ∙ cond-false (eqb b 0x43) _ _ (ne_eqb b 0x43 down)
-      ∙ cond-false (eqb b 0x44) _ _ (ne_eqb b 0x44 left)
-      ∙ cond-false (eqb b 0x48) _ _ (ne_eqb b 0x48 home)
-      ∙ cond-false (eqb b 0x4a) _ _ (ne_eqb b 0x4a clear)
-      ∙ cond-false (eqb b 0x6d) _ _ (ne_eqb b 0x6d pen)
+  ended_other b a up down left home clear pen = search rules

@@ -1,7 +1,11 @@
 pub mod Bounds
+pub mod Digits
 pub mod Ends
 pub mod Keeps
+pub mod Kept
 pub mod Laws
 pub mod Moves
+pub mod Named
 pub mod Numbers
+pub mod Stays
 pub mod Steps

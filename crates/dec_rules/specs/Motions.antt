@@ -4,12 +4,14 @@
 --     spelled m       the bytes of m: numbers are decimal without leading zeros, and a 1 is left out but in an address
 --     takes m         the milliseconds that m takes
 --     answers z       all that a panel of size z answers
-use Rattle.std.specs.Prelude.{ℕ, ◌+◌, ◌-◌, ◌*◌, ◌/◌, ◌%◌, true, cond, List, [], ◌∷◌, ◌++◌, Some, None, decimal, Option, ◌==◌, nat_le, nat_lt}
-use Rattle.display.specs.Surface.{place_of}
+use Rattle.std.specs.Prelude.{ℕ, ◌+◌, ◌-◌, ◌*◌, true, cond, List, [], ◌∷◌, ◌++◌, Some, None, decimal, Option, ◌==◌, nat_le}
+use Rattle.std.specs.Option.{option_map}
+use Rattle.display.specs.Steps.{above, below, left_of, placed, right_of}
+use Rattle.display.specs.Surface.{place_of, unless_held}
 use Rattle.display.specs.declared.place.Cursor.{Cursor}
 use Rattle.display.specs.declared.place.Place.{Place}
 use Rattle.display.specs.declared.size.Size.{Size}
-use Rattle.panel.specs.Answers.{Answers}
+use Rattle.panel.specs.Answers.{Answers, answered}
 use Rattle.dec_rules.specs.Pens.{pen_bytes, wipe}
 use Rattle.dec_rules.specs.Rules.{after}
 use Rattle.dec_rules.specs.declared.motion.Motion.{Motion}
@@ -24,19 +26,16 @@ numbered z n =
     cond (nat_le n 48) (Some (Down (n - 25))) (
     cond (nat_le n 127) (Some (Right (n - 48))) (
     cond (nat_le n 206) (Some (Left (n - 127))) (
-    cond (nat_lt (n - 207) (z.rows * z.columns)) (Some (Address (place_of ((n - 207) / z.columns) ((n - 207) % z.columns)))) None)))))))
-
-abbrev pub unheld : Cursor → Option Place → Option Place
-unheld k o = cond k.held None o
+    option_map Address (placed z (n - 207)))))))))
 
 abbrev pub offered : Size → Cursor → Motion → Option Place
 offered z k Return = Some (place_of k.place.row 0)
-offered z k Back = unheld k (cond (nat_lt 0 k.place.column) (Some (place_of k.place.row (k.place.column - 1))) None)
-offered z k Feed = unheld k (cond (nat_lt k.place.row (z.rows - 1)) (Some (place_of (k.place.row + 1) k.place.column)) None)
-offered z k (Up n) = unheld k (cond (nat_le n k.place.row) (Some (place_of (k.place.row - n) k.place.column)) None)
-offered z k (Down n) = unheld k (cond (nat_lt (k.place.row + n) z.rows) (Some (place_of (k.place.row + n) k.place.column)) None)
-offered z k (Right n) = unheld k (cond (nat_lt (k.place.column + n) z.columns) (Some (place_of k.place.row (k.place.column + n))) None)
-offered z k (Left n) = unheld k (cond (nat_le n k.place.column) (Some (place_of k.place.row (k.place.column - n))) None)
+offered z k Back = unless_held k (left_of k.place 1)
+offered z k Feed = unless_held k (below z k.place 1)
+offered z k (Up n) = unless_held k (above k.place n)
+offered z k (Down n) = unless_held k (below z k.place n)
+offered z k (Right n) = unless_held k (right_of z k.place n)
+offered z k (Left n) = unless_held k (left_of k.place n)
 offered z k (Address p) = Some p
 
 -- 1Bh 5Bh is ESC [: a number that is left out where it is 1, and a letter
@@ -52,7 +51,8 @@ spelled (Up n) = relative n 0x41
 spelled (Down n) = relative n 0x42
 spelled (Right n) = relative n 0x43
 spelled (Left n) = relative n 0x44
-spelled (Address p) = (0x1b ∷ 0x5b ∷ []) ++ (decimal (p.row + 1) ++ ((0x3b ∷ []) ++ (decimal (p.column + 1) ++ (0x48 ∷ []))))
+spelled (Address p) =
+    (0x1b ∷ 0x5b ∷ []) ++ (decimal (p.row + 1) ++ ((0x3b ∷ []) ++ (decimal (p.column + 1) ++ (0x48 ∷ []))))
 
 abbrev pub takes : Motion → ℕ
 takes Return = 0
@@ -64,20 +64,15 @@ takes (Right n) = 2
 takes (Left n) = 2
 takes (Address p) = 5
 
--- what a motion gives, where there is one
-abbrev pub of_motion : {X : Type 0} → X → (Motion → X) → Option Motion → X
-of_motion x f None = x
-of_motion x f (Some m) = f m
-
 abbrev pub answers : Size → Answers
 answers z = record {
   size = z;
   pens = 16;
   corner_safe = true;
   motions = 207 + z.rows * z.columns;
-  lands = λ n k. of_motion None (offered z k) (numbered z n);
-  motion_bytes = λ n. of_motion [] spelled (numbered z n);
-  delay = λ n. of_motion 0 takes (numbered z n);
+  lands = λ n k. answered None (offered z k) (numbered z n);
+  motion_bytes = λ n. answered [] spelled (numbered z n);
+  delay = λ n. answered 0 takes (numbered z n);
   after = after z;
   pen_bytes = pen_bytes;
   wipe = wipe;

@@ -1,6 +1,7 @@
 -- Parameters, and what the end of a control sequence does.
 --     none             no parameter is read yet
---     digit_read p d   the digit d joins the parameter being read; a value above 999 counts as 999, and past the eighth nothing is kept
+--     digit_read p d   the digit d joins the parameter being read; a value above 999 counts as 999, and past the
+--                      eighth nothing is kept
 --     next_read p      the next parameter is read; after the eighth none is counted
 --     first, second    a parameter that counts from 1: missing or 0 counts as 1
 --     pen_after p v    the pen p after the parameter v: 0 sets pen 0; 1, 4, 5, 7 set bold, underscore, blink, reverse

@@ -5,23 +5,23 @@
 --     coded s r b       the byte b is a code, 20h to 7Eh
 --     controlled s r b  the byte b is no code
 --     fed m b           the meaning m after the byte b
-use Rattle.std.specs.Prelude.{ℕ, ◌+◌, ◌-◌, Bool, true, cond, ◌&&◌, ◌==◌, nat_le, nat_lt}
+use Rattle.std.specs.Prelude.{ℕ, ◌-◌, Bool, true, cond, ◌&&◌, ◌==◌, nat_le, nat_lt}
 use Rattle.display.specs.Cell.{is_code}
-use Rattle.display.specs.Surface.{Surface, at_cursor, drawn, place_of, resting}
+use Rattle.display.specs.Surface.{Surface, at_cursor, drawn, stepped}
 use Rattle.display.specs.declared.place.Cursor.{Cursor}
 use Rattle.display.specs.declared.place.Place.{Place}
 use Rattle.display.specs.declared.size.Size.{Size}
-use Rattle.canvas.specs.Drawing.{goto, line_fed}
+use Rattle.canvas.specs.Drawing.{goto, line_fed, new_line}
 use Rattle.panel.specs.Meaning.{Meaning, of}
 use Rattle.dec_rules.specs.Reading.{digit_read, ended, next_read, none}
 use Rattle.dec_rules.specs.declared.reading.Reading.{Reading}
 use Rattle.dec_rules.specs.declared.reading.Reading.TheVariants.{Ground, Escape, Sequence, Voided}
 
 abbrev pub after : Size → Place → Cursor
-after z p = cond (nat_lt (p.column + 1) z.columns) (resting (place_of p.row (p.column + 1))) (record { place = p; held = true })
+after z p = stepped z p (record { place = p; held = true })
 
 abbrev pub wrapped : Surface → Surface
-wrapped s = cond s.cursor.held (line_fed (goto s s.cursor.place.row 0)) s
+wrapped s = cond s.cursor.held (new_line s) s
 
 unfoldable pub printed : Surface → ℕ → Surface
 printed s c = let t = wrapped s in at_cursor (drawn t c) (after t.size t.cursor.place)

@@ -1,4 +1,5 @@
 pub mod Cell
+pub mod Facts
 pub mod Limits
 pub mod Place
 pub mod Steps

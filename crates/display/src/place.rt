@@ -2,21 +2,32 @@
 ghost use Rattle.std.specs.Prelude.{◌≡◌, ◌*◌, ◌<◌, ◌≤◌, MatchOption};
 ghost use Rattle.display.specs.Limits.{Allowed};
 ghost use Rattle.display.specs.Place.{Numbered, On, number};
+ghost use Rattle.display.specs.Surface.{corner, resting};
 
 use crate::size::Size;
 
-// A row and a column, counted from 0.
-#[derive(Clone, Copy, Debug, PartialEq, Eq)]
+// A row and a column, counted from 0. The default is the first place.
+#[derive(Clone, Copy, Debug, Default, PartialEq, Eq)]
 pub struct Place {
     pub row: u8,
     pub column: u8,
 }
 
-// Where the cursor stands. It is held while a wrap is pending in the last column.
-#[derive(Clone, Copy, Debug, PartialEq, Eq)]
+// Where the cursor stands. It is held while a wrap is pending in the last column. The default is on the first place,
+// unheld. A flag beside the place, and neither an option nor an enum: there is a place either way, and most ask for it.
+#[derive(Clone, Copy, Debug, Default, PartialEq, Eq)]
 pub struct Cursor {
     pub place: Place,
     pub held: bool,
+}
+
+// The cursor at a place, unheld.
+impl From<Place> for Cursor {
+    ghost from_gives = { λ p c. c ≡ resting p };
+
+    fn from(place: Place) -> Cursor {
+        Cursor { place, held: false }
+    }
 }
 
 impl Size {
@@ -55,6 +66,17 @@ impl Size {
         }
     }
 
+    // The last place.
+    pub fn corner(&self) -> Place
+        ensures is { result ≡ corner self.now }
+        ensures on { On self.now result }
+    {
+        Place {
+            row: self.rows - 1,
+            column: self.columns - 1,
+        }
+    }
+
     // The number of a place: the places of a row have numbers in a row.
     pub fn number(&self, place: Place) -> usize
         ensures { result ≡ number self.now place }
@@ -62,7 +84,7 @@ impl Size {
         place.row as usize * self.columns as usize + place.column as usize
     }
 
-    // The place that has a number, if there is one.
+    // The place that has a number, if there is one: the rules number places.
     pub fn place_at(&self, number: usize) -> Option<Place>
         ensures { MatchOption result (self.now.rows * self.now.columns ≤ number)
             (Numbered self.now number) }
@@ -70,18 +92,10 @@ impl Size {
         if number >= self.places() {
             return None;
         }
-        Some(self.split(number))
-    }
-
-    // The row and the column that a number stands for.
-    fn split(&self, number: usize) -> Place
-        requires { number < self.now.rows * self.now.columns }
-        ensures { Numbered self.now number result }
-    {
         let columns = self.columns as usize;
-        Place {
+        Some(Place {
             row: (number / columns) as u8,
             column: (number % columns) as u8,
-        }
+        })
     }
 }

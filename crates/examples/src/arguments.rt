@@ -4,9 +4,7 @@ use view::arguments::asked_size;
 
 #[test]
 fn sizes_that_are_asked_for(rt: HostRuntime) -> Result<(), Fail> {
-    let Some(size) = asked_size("D", "24", "80") else {
-        return Err(Fail::new("no size"));
-    };
+    let size = asked_size("D", "24", "80").ok_or("no size")?;
     assert_eq!(rt; size.rows, 24);
     assert_eq!(rt; size.columns, 80);
     assert!(rt; asked_size("D", "1", "2").is_some());

@@ -1,4 +1,5 @@
 // Sizes, places and cells.
+use crate::trials::size;
 use display::cell::Cell;
 use display::cell::attributed::Attributed;
 use display::cell::plain::Plain;
@@ -18,9 +19,7 @@ fn sizes_have_limits(rt: HostRuntime) {
 
 #[test]
 fn places_are_numbered_row_by_row(rt: HostRuntime) -> Result<(), Fail> {
-    let Some(size) = Size::new(24, 80) else {
-        return Err(Fail::new("no size"));
-    };
+    let size = size(24, 80)?;
     assert_eq!(rt; size.places(), 1920);
     assert_eq!(rt; size.number(Place { row: 1, column: 2 }), 82);
     assert_eq!(rt; size.place_at(82), Some(Place { row: 1, column: 2 }));

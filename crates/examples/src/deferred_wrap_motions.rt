@@ -1,28 +1,14 @@
 // The deferred-wrap panel's answers at 24 rows and 80 columns.
-use dec_panel::model::DecPanel;
-use display::place::{Cursor, Place};
-use display::size::Size;
+// Places and blanks are written out, so that a test shows its numbers.
+use crate::trials::{at, new};
+use dec_panel::model::Dec;
+use display::place::Place;
 use panel::panel::Panel;
 use std::test::Fail;
 
-fn wide(rt: &HostRuntime) -> Result<DecPanel, Fail> {
-    let Some(size) = Size::new(24, 80) else {
-        return Err(Fail::new("no size"));
-    };
-    let panel = DecPanel::new(rt.alloc(), size)?;
-    Ok(panel)
-}
-
-fn at(row: u8, column: u8, held: bool) -> Cursor {
-    Cursor {
-        place: Place { row, column },
-        held,
-    }
-}
-
 #[test]
 fn bytes_and_delays(rt: HostRuntime) -> Result<(), Fail> {
-    let panel = wide(&rt)?;
+    let panel = new::<Dec>(rt.alloc(), 24, 80)?;
     assert_eq!(rt; panel.motions(), 2127);
     assert_eq!(rt; panel.motion_bytes(0).as_slice(), b"\r".as_slice());
     assert_eq!(rt; panel.motion_bytes(3).as_slice(), b"\x1B[A".as_slice());
@@ -44,7 +30,7 @@ fn bytes_and_delays(rt: HostRuntime) -> Result<(), Fail> {
 
 #[test]
 fn landings(rt: HostRuntime) -> Result<(), Fail> {
-    let panel = wide(&rt)?;
+    let panel = new::<Dec>(rt.alloc(), 24, 80)?;
     assert_eq!(rt;
         panel.landing(0, at(3, 9, false)),
         Some(Place { row: 3, column: 0 })
@@ -77,7 +63,7 @@ fn landings(rt: HostRuntime) -> Result<(), Fail> {
 
 #[test]
 fn pens_and_wipe(rt: HostRuntime) -> Result<(), Fail> {
-    let panel = wide(&rt)?;
+    let panel = new::<Dec>(rt.alloc(), 24, 80)?;
     assert_eq!(rt; panel.pens(), 16);
     assert!(rt; panel.corner_safe());
     assert_eq!(rt; panel.pen_bytes(0).as_slice(), b"\x1B[0m".as_slice());

@@ -1,5 +1,5 @@
-// Examples of use, as tests: sizes, places and cells, the words that a program takes, the deferred-wrap panel, and what
-// all panels share. The examples of each other kind of panel are in a crate of their own.
+// Examples of use, as tests: sizes, places and cells, the words that a program takes, each kind of panel, and what all
+// kinds share.
 #![tactic(auto)]
 
 #[cfg(test)]
@@ -13,4 +13,16 @@ mod deferred_wrap_motions;
 #[cfg(test)]
 mod every_panel;
 #[cfg(test)]
+mod inputs;
+#[cfg(test)]
 mod requests;
+#[cfg(test)]
+mod short_code;
+#[cfg(test)]
+mod short_code_answers;
+#[cfg(test)]
+mod sticking;
+#[cfg(test)]
+mod sticking_answers;
+#[cfg(test)]
+mod trials;

@@ -9,9 +9,7 @@ fn panels_that_are_asked_for(rt: HostRuntime) -> Result<(), Fail> {
         ("C", Kind::ImmediateWrap),
         ("T", Kind::Sticking),
     ] {
-        let Some(request) = asked_panel(letter, "24", "80") else {
-            return Err(Fail::new("no panel"));
-        };
+        let request = asked_panel(letter, "24", "80").ok_or("no panel")?;
         assert_eq!(rt; request.kind, kind);
         assert_eq!(rt; request.size.rows, 24);
         assert_eq!(rt; request.size.columns, 80);

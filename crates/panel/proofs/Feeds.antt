@@ -1,12 +1,12 @@
 -- Byte strings one after the other, and what a ready panel is fed. Assumes nothing.
-use Rattle.std.proofs.Common.{◌≡◌, ℕ, List, [], ◌∷◌, ◌++◌, refl, ap}
+use Rattle.std.proofs.Common.{◌≡◌, ℕ, List, ◌++◌, rules}
+use Rattle.std.proofs.lemmas.List.Sums.{fold-append}
 use Rattle.panel.specs.Meaning.{Meaning, feeds, of}
 
 pub feeds_append : {M : Type 0} (f : Meaning M → ℕ → Meaning M) (m : Meaning M) (xs ys : List ℕ)
     → feeds f m (xs ++ ys) ≡ feeds f (feeds f m xs) ys
-feeds_append f m [] ys = refl
-feeds_append f m (x ∷ xs) ys = feeds_append f (f m x) xs ys
+feeds_append f m xs ys = fold-append f m xs ys
 
 -- a ready meaning, with its reading state written out
 pub at_ready : {M : Type 0} (ready : M) (m : Meaning M) → m.mode ≡ ready → m ≡ of m.surface ready
-at_ready ready m e = ap (of m.surface) e
+at_ready ready m e = search rules

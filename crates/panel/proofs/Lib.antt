@@ -1,5 +1,4 @@
 pub mod Capped
 pub mod Feeds
 pub mod Motions
-pub mod Short
 pub mod Soundness

@@ -1,5 +1,5 @@
 -- Panels whose motions have names: what holds of each motion holds of the answers for its number. Assumes nothing.
-use Rattle.std.proofs.Common.{◌≡◌, ℕ, ◌<◌, ◌≤◌, List, [], length, Some, None, Option, refl, ap, ◌∙◌, arith}
+use Rattle.std.proofs.Common.{◌≡◌, ℕ, ◌<◌, ◌≤◌, List, [], length, Some, None, Option, refl, rules}
 use Rattle.display.specs.Place.{On}
 use Rattle.display.specs.Surface.{moved}
 use Rattle.display.specs.declared.place.Cursor.{Cursor}
@@ -7,16 +7,12 @@ use Rattle.display.specs.declared.place.Place.{Place}
 use Rattle.display.specs.declared.size.Size.{Size}
 use Rattle.panel.specs.Answers.{answered}
 use Rattle.panel.specs.Meaning.{Meaning, feeds, of}
-use Rattle.panel.proofs.Feeds.{at_ready}
 
 -- by cases, with the case kept as a fact
 pub by_case : {M : Type 0} (o : Option M) (P : Option M → Type 0) → ((m : M) → o ≡ Some m → P (Some m))
     → (o ≡ None → P None) → P o
 by_case None P some none = none refl
 by_case (Some m) P some none = some m refl
-
-nowhere : {p : Place} → None ≡ Some p → ⊥
-nowhere e = let never : ◌≡◌ {A = ℕ} 0 1 = cc in omega arith
 
 -- the motions of a panel of size z, numbered below N: each has a name, lands on the panel, and has 1 to 16 bytes
 pub record Named {M : Type 0} (z : Size) (N : ℕ) (numbered : ℕ → Option M) (offered : Cursor → M → Option Place)
@@ -32,21 +28,17 @@ module _ {M : Type 0} {z : Size} {N : ℕ} {numbered : ℕ → Option M} {offere
     → List ℕ}
     (named : Named z N numbered offered spelled) where
   pub named_past : (n : ℕ) (k : Cursor) → N ≤ n → answered None (offered k) (numbered n) ≡ None
-  named_past n k past = ap (answered None (offered k)) (named.none n past)
+  named_past n k past = search rules
 
   pub named_on : (n : ℕ) (k : Cursor) (p : Place) → On z k.place → answered None (offered k) (numbered n) ≡ Some p
       → On z p
-  named_on n k p on =
-      by_case (numbered n) (λ o. answered None (offered k) o ≡ Some p → On z p)
-      (λ m e lands. named.on n m k p e on lands) (λ _ lands. absurd (nowhere lands))
+  named_on n k p on e = search rules
 
   pub named_least : (n : ℕ) → n < N → 1 ≤ length (answered [] spelled (numbered n))
-  named_least n h = by_case (numbered n) (λ o. 1 ≤ length (answered [] spelled o)) (named.least n)
-      (λ e. absurd (named.some n h e))
+  named_least n h = search rules
 
   pub named_most : (n : ℕ) → n < N → length (answered [] spelled (numbered n)) ≤ 16
-  named_most n h = by_case (numbered n) (λ o. length (answered [] spelled o) ≤ 16) (named.most n)
-      (λ e. absurd (named.some n h e))
+  named_most n h = search rules
 
 -- the law of motions, from what each motion's bytes do to a ready panel
 pub named_moves : {M Mode : Type 0} (ready : Mode) (numbered : ℕ → Option M) (offered : Cursor → M → Option Place)
@@ -56,9 +48,4 @@ pub named_moves : {M Mode : Type 0} (ready : Mode) (numbered : ℕ → Option M)
     → feeds f (of m.surface ready) (spelled motion) ≡ of (moved m.surface p) ready)
     → (p : Place) → m.mode ≡ ready → answered None (offered m.surface.cursor) (numbered n) ≡ Some p
     → feeds f m (answered [] spelled (numbered n)) ≡ of (moved m.surface p) ready
-named_moves ready numbered offered spelled f m n each p is =
-    by_case (numbered n)
-    (λ o. answered None (offered m.surface.cursor) o ≡ Some p
-    → feeds f m (answered [] spelled o) ≡ of (moved m.surface p) ready)
-    (λ motion e lands. ap (λ k. feeds f k (spelled motion)) (at_ready ready m is) ∙ each motion p e lands)
-    (λ _ lands. absurd (nowhere lands))
+named_moves ready numbered offered spelled f m n each p is e = search rules

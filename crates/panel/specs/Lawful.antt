@@ -1,6 +1,7 @@
 -- The laws of a panel.
 --     Sound a m          m is a meaning that a panel with the answers a can have
---     Open a m           a code may be printed at the cursor: it is not on an unsafe corner
+--     Free a p           a code may be printed at the place p: it is no unsafe corner
+--     Open a s           a code may be printed at the cursor of the surface s
 --     Lands r a m n m'   a panel that means m and is ready, fed the bytes of a motion n that is offered, means m': it lands where it
 --                        was told, unheld and ready, and nothing else has changed
 --     Prints r a m c m'  one that is ready and unheld, fed the code c, has set the cell at the cursor and taken the after-state, and
@@ -18,8 +19,11 @@ pub record Sound {Mode : Type 0} (a : Answers) (m : Meaning Mode) : Type 0 where
   pub sized : m.surface.size ≡ a.size
   pub within : Within a.pens m.surface
 
+abbrev pub Free : Answers → Place → Type 0
+Free a p = a.corner_safe ≡ false → p ≢ corner a.size
+
 abbrev pub Open : Answers → Surface → Type 0
-Open a s = a.corner_safe ≡ false → s.cursor.place ≢ corner a.size
+Open a s = Free a s.cursor.place
 
 abbrev pub Lands : {Mode : Type 0} → Mode → Answers → Meaning Mode → ℕ → Meaning Mode → Type 0
 Lands ready a m n after =

@@ -1,5 +1,4 @@
 -- One letter on a wiped panel.
---     Free a q              a code may be printed at the place q: it is no unsafe corner
 --     Possible a n p c q    the motion n is offered on the first place and leads to q, where a code may be printed; p
 --                           is one of
 --                           the pens, and c is a code
@@ -7,17 +6,15 @@
 --     Shows r a n p c m m' o  what is answered where the panel means m before and m' after: the cursor then, or
 --                             nothing and
 --                           nothing changed; r is the reading state in which it is ready
-use Rattle.std.specs.Prelude.{◌≡◌, ℕ, ◌<◌, false, Some, None, Option, ◌≢◌}
+use Rattle.std.specs.Prelude.{◌≡◌, ℕ, ◌<◌, Some, None, Option}
 use Rattle.display.specs.Cell.{Code}
 use Rattle.display.specs.Place.{On}
-use Rattle.display.specs.Surface.{Surface, at_cursor, corner, drawn, inked, moved, place_of, resting, wiped}
+use Rattle.display.specs.Surface.{Surface, at_cursor, drawn, inked, moved, place_of, resting, wiped}
 use Rattle.display.specs.declared.place.Cursor.{Cursor}
 use Rattle.display.specs.declared.place.Place.{Place}
 use Rattle.panel.specs.Answers.{Answers}
+use Rattle.panel.specs.Lawful.{Free}
 use Rattle.panel.specs.Meaning.{Meaning, of}
-
-abbrev pub Free : Answers → Place → Type 0
-Free a q = a.corner_safe ≡ false → q ≢ corner a.size
 
 pub record Possible (a : Answers) (n p c : ℕ) (q : Place) : Type 0 where
   pub lands : a.lands n (resting (place_of 0 0)) ≡ Some q

@@ -1,4 +1,5 @@
-// Feeding whole byte strings, and what the laws give of them.
+// Feeding whole byte strings, and what the laws give of them. What a call feeds, and that the answers stay, are clauses
+// of each: they speak of two states of a panel, and an invariant speaks of one.
 ghost use Rattle.std.specs.Prelude.{◌≡◌, length};
 ghost use Rattle.display.specs.Surface.{wiped};
 ghost use Rattle.panel.specs.Lawful.{Inks, Lands, Prints};
@@ -13,21 +14,14 @@ pub fn feed_all<P: Panel>(panel: &mut P, bytes: &[u8]) -> usize
     ensures after { P.meaning panel.new
         ≡ feeds (P.fed (P.answers panel.old)) (P.meaning panel.old) bytes.now }
 {
-    feed_each(panel, bytes);
-    bytes.len()
-}
-
-fn feed_each<P: Panel>(panel: &mut P, bytes: &[u8])
-    ensures fixed { P.answers panel.new ≡ P.answers panel.old }
-    ensures after { P.meaning panel.new
-        ≡ feeds (P.fed (P.answers panel.old)) (P.meaning panel.old) bytes.now }
-{
     for byte in bytes {
         panel.feed(*byte);
     }
+    bytes.len()
 }
 
-// Feeds the bytes of a motion. A ready panel lands where the motion is told to land, unheld and ready.
+// Feeds the bytes of a motion, told by its number as the rules number them. A ready panel lands where the motion is
+// told to land, unheld and ready.
 pub fn feed_motion<P: Panel>(panel: &mut P, motion: u16)
     ensures fixed { P.answers panel.new ≡ P.answers panel.old }
     ensures after { P.meaning panel.new
@@ -37,20 +31,7 @@ pub fn feed_motion<P: Panel>(panel: &mut P, motion: u16)
         (P.meaning panel.new) }
 {
     let bytes = panel.motion_bytes(motion);
-    feed_landing(panel, motion, bytes.as_slice());
-}
-
-// Feeds bytes that are those of a motion.
-fn feed_landing<P: Panel>(panel: &mut P, motion: u16, sent: &[u8])
-    requires { sent.now ≡ (P.answers panel.old).motion_bytes motion }
-    ensures fixed { P.answers panel.new ≡ P.answers panel.old }
-    ensures after { P.meaning panel.new
-        ≡ feeds (P.fed (P.answers panel.old)) (P.meaning panel.old)
-        ((P.answers panel.old).motion_bytes motion) }
-    ensures lands { Lands P.ready (P.answers panel.old) (P.meaning panel.old) motion
-        (P.meaning panel.new) }
-{
-    feed_each(panel, sent);
+    feed_all(panel, bytes.as_slice());
 }
 
 // Feeds a code. A ready, unheld panel sets the cell at the cursor and takes the after-state.
@@ -74,7 +55,7 @@ pub fn feed_pen<P: Panel>(panel: &mut P, pen: u8)
         (P.meaning panel.new) }
 {
     let bytes = panel.pen_bytes(pen);
-    feed_each(panel, bytes.as_slice());
+    feed_all(panel, bytes.as_slice());
 }
 
 // Feeds the wipe bytes, which give one meaning whatever came before: all blanks, the first place, unheld, pen 0,
@@ -84,5 +65,5 @@ pub fn feed_wipe<P: Panel>(panel: &mut P)
     ensures wipes { P.meaning panel.new ≡ of (wiped (P.answers panel.old).size) P.ready }
 {
     let bytes = panel.wipe_bytes();
-    feed_each(panel, bytes.as_slice());
+    feed_all(panel, bytes.as_slice());
 }

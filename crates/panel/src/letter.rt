@@ -1,28 +1,22 @@
 // One letter on a wiped panel, whatever its kind: a trial that every law has a part in.
 ghost use Rattle.std.specs.Prelude.{◌≡◌, Decides};
-ghost use Rattle.display.specs.Cell.{Code};
-ghost use Rattle.panel.specs.Letter.{Free, Possible, Shown, Shows};
+ghost use Rattle.panel.specs.Lawful.{Free};
+ghost use Rattle.panel.specs.Letter.{Possible, Shown, Shows};
 
 use crate::feeding::{feed_code, feed_motion, feed_pen, feed_wipe};
 use crate::panel::Panel;
+use display::cell::is_printable;
 use display::place::{Cursor, Place};
-
-// Whether a byte is a printable code.
-fn is_printable(code: u8) -> bool
-    ensures { Decides result (Code code) }
-{
-    code >= 0x20 && code <= 0x7E
-}
 
 // Whether a code may be printed at a place: an unsafe corner is no such place.
 fn may_print<P: Panel>(panel: &P, place: Place) -> bool
     ensures { Decides result (Free (P.answers panel.now) place) }
 {
-    let size = panel.size();
-    panel.corner_safe() || place.row != size.rows - 1 || place.column != size.columns - 1
+    panel.corner_safe() || place != panel.size().corner()
 }
 
-// Wipes the panel, moves to a place, sets a pen and prints a code.
+// Wipes the panel, moves to a place, sets a pen and prints a code. Pen and code stand apart, as they are fed; the rules
+// number motions; that the answers stay is a clause, as it speaks of two states of a panel.
 fn print_at<P: Panel>(panel: &mut P, motion: u16, place: Place, pen: u8, code: u8) -> Cursor
     requires { Possible (P.answers panel.old) motion pen code place }
     ensures fixed { P.answers panel.new ≡ P.answers panel.old }
@@ -38,20 +32,13 @@ fn print_at<P: Panel>(panel: &mut P, motion: u16, place: Place, pen: u8, code: u
 
 // Wipes the panel, takes a motion from the first place, sets a pen and prints a code, and answers where the cursor
 // then stands. Where the motion is not offered there or leads to an unsafe corner, or the panel has no such pen, or
-// the byte is no code, nothing is answered and the panel is left alone.
+// the byte is no code, nothing is answered and the panel is left alone. Motion, pen and code stand as they do above.
 pub fn show_letter<P: Panel>(panel: &mut P, motion: u16, pen: u8, code: u8) -> Option<Cursor>
     ensures fixed { P.answers panel.new ≡ P.answers panel.old }
     ensures shows { Shows P.ready (P.answers panel.old) motion pen code (P.meaning panel.old)
         (P.meaning panel.new) result }
 {
-    let first = Place { row: 0, column: 0 };
-    let start = Cursor {
-        place: first,
-        held: false,
-    };
-    let Some(place) = panel.landing(motion, start) else {
-        return None;
-    };
+    let place = panel.landing(motion, Cursor::default())?;
     if pen >= panel.pens() || !is_printable(code) || !may_print(panel, place) {
         return None;
     }

@@ -5,5 +5,6 @@
 pub mod bytes;
 pub mod feeding;
 pub mod letter;
+pub mod moves;
 pub mod panel;
 pub mod readout;

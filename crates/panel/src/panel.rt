@@ -1,7 +1,6 @@
 // The interface of a panel.
 ghost use Rattle.std.specs.Prelude.{◌≡◌, ℕ};
 ghost use Rattle.panel.specs.Answers.{Answers};
-ghost use Rattle.panel.specs.Bytes.{bytes_of};
 ghost use Rattle.panel.specs.Lawful.{Lawful, Sound};
 ghost use Rattle.panel.specs.Meaning.{Meaning};
 
@@ -35,7 +34,7 @@ pub trait Panel {
     fn corner_safe(&self) -> bool
         ensures { result ≡ (answers self.now).corner_safe };
 
-    // The number of motions.
+    // The number of motions. They are asked for by number, since the rules number them; a kind has an enum of them.
     fn motions(&self) -> u16
         ensures { result ≡ (answers self.now).motions };
 
@@ -44,7 +43,7 @@ pub trait Panel {
         ensures { result ≡ (answers self.now).lands motion cursor };
 
     fn motion_bytes(&self, motion: u16) -> ShortBytes
-        ensures { bytes_of result ≡ (answers self.now).motion_bytes motion };
+        ensures { result ≡ (answers self.now).motion_bytes motion };
 
     // The milliseconds that a motion takes.
     fn delay(&self, motion: u16) -> u16
@@ -55,10 +54,10 @@ pub trait Panel {
         ensures { result ≡ (answers self.now).after place };
 
     fn pen_bytes(&self, pen: u8) -> ShortBytes
-        ensures { bytes_of result ≡ (answers self.now).pen_bytes pen };
+        ensures { result ≡ (answers self.now).pen_bytes pen };
 
     fn wipe_bytes(&self) -> ShortBytes
-        ensures { bytes_of result ≡ (answers self.now).wipe };
+        ensures { result ≡ (answers self.now).wipe };
 
     fn feed(&mut self, byte: u8)
         ensures fixed { answers self.new ≡ answers self.old }

@@ -9,7 +9,7 @@ use std::env;
 use std::io::{Read, Write};
 use std::process::ExitCode;
 use sticking_panel::model::StickingPanel;
-use view::input::add_part;
+use view::input::add_within;
 use view::report::show;
 use view::requests::{Kind, Request, asked_panel};
 
@@ -18,28 +18,13 @@ const USAGE: &str =
 
 // The panel that the arguments ask for.
 fn panel_from_arguments(rt: &HostRuntime) -> anyhow::Result<Request> {
-    let mut words = env::args(rt)?;
-    let _program = words.next();
-    let Some(kind) = words.next() else {
-        return usable(asked_panel("D", "24", "80"));
-    };
-    let Some(rows) = words.next() else {
-        return Err(anyhow!(USAGE));
-    };
-    let Some(columns) = words.next() else {
-        return Err(anyhow!(USAGE));
-    };
-    if words.next().is_some() {
-        return Err(anyhow!(USAGE));
+    let words: Vec<String> = env::args(rt)?.skip(1).collect(rt.alloc())?;
+    match words.as_slice() {
+        [] => asked_panel("D", "24", "80"),
+        [kind, rows, columns] => asked_panel(kind, rows, columns),
+        _ => None,
     }
-    usable(asked_panel(kind.as_str(), rows.as_str(), columns.as_str()))
-}
-
-fn usable(request: Option<Request>) -> anyhow::Result<Request> {
-    match request {
-        Some(request) => Ok(request),
-        None => Err(anyhow!(USAGE)),
-    }
+    .ok_or_else(|| anyhow!(USAGE))
 }
 
 // All of standard input, unless it is longer than the limit.
@@ -47,22 +32,21 @@ fn read_input(rt: &HostRuntime) -> anyhow::Result<Vec<u8>> {
     let mut input = Vec::new(rt.alloc());
     let mut stdin = rt.stdin();
     let mut part = [0u8; 4096];
+    // to the end of the input, which no number is known for; `read_to_end` would not tell the limit
     for _ in 0..u64::MAX {
         let count = stdin.read(&mut part)?;
         if count == 0 {
             break;
         }
-        if !add_part(&mut input, &part[0..count])? {
-            return Err(anyhow!("the input is longer than 1048576 bytes"));
-        }
+        add_within(&mut input, &part[..count])?;
     }
     Ok(input)
 }
 
 // Feeds the input to a panel and prints what it then shows.
-fn show_on<P: Readout>(rt: &HostRuntime, panel: &mut P, input: &[u8]) -> anyhow::Result<()> {
-    let text = show(rt.alloc(), panel, input)?;
-    rt.stdout().write_all(text.as_slice())?;
+fn show_on<P: Readout + Drop>(rt: &HostRuntime, mut panel: P, input: &[u8]) -> anyhow::Result<()> {
+    let text = show(rt.alloc(), &mut panel, input)?;
+    rt.stdout().write_all(&text)?;
     Ok(())
 }
 
@@ -70,18 +54,9 @@ fn run(rt: &HostRuntime) -> anyhow::Result<()> {
     let Request { kind, size } = panel_from_arguments(rt)?;
     let input = read_input(rt)?;
     match kind {
-        Kind::DeferredWrap => {
-            let mut panel = DecPanel::new(rt.alloc(), size)?;
-            show_on(rt, &mut panel, input.as_slice())
-        }
-        Kind::ImmediateWrap => {
-            let mut panel = ShortCodePanel::new(rt.alloc(), size)?;
-            show_on(rt, &mut panel, input.as_slice())
-        }
-        Kind::Sticking => {
-            let mut panel = StickingPanel::new(rt.alloc(), size)?;
-            show_on(rt, &mut panel, input.as_slice())
-        }
+        Kind::DeferredWrap => show_on(rt, DecPanel::new(rt.alloc(), size)?, &input),
+        Kind::ImmediateWrap => show_on(rt, ShortCodePanel::new(rt.alloc(), size)?, &input),
+        Kind::Sticking => show_on(rt, StickingPanel::new(rt.alloc(), size)?, &input),
     }
 }
 

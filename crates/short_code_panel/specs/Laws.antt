@@ -1,13 +1,13 @@
 -- A panel that follows the rules is lawful, whatever its size. Assumes nothing.
-use Rattle.std.specs.Prelude.{◌≡◌, ℕ, zero, suc, ◌+◌, ◌-◌, ◌<◌, ◌≤◌, ◌⊎◌, Some, ◌≢◌, nat_lt, refl}
-use Rattle.std.proofs.Common.{sym, ap, ap₂, ◌∙◌, subst, inl, inr, arith}
+use Rattle.std.specs.Prelude.{◌≡◌, ℕ, ◌+◌, ◌<◌, ◌≤◌, ◌⊎◌, Some, ◌≢◌, refl}
+use Rattle.std.proofs.Common.{sym, ap, ◌∙◌, subst, inl, inr, rules}
 use Rattle.std.proofs.lemmas.Bool.{cases_lt, cond-true, lt-ltb}
 use Rattle.display.specs.Place.{On}
-use Rattle.display.specs.Surface.{Surface, at_cursor, corner, drawn, inked, moved, place_of, resting, wiped}
+use Rattle.display.specs.Surface.{Surface, at_cursor, corner, drawn, inked, moved, resting, wiped}
 use Rattle.display.specs.declared.place.Place.{Place}
 use Rattle.display.specs.declared.size.Size.{Size}
-use Rattle.canvas.specs.Drawing.{line_fed, new_line, onward}
-use Rattle.canvas.proofs.Arrivals.{goto_return, onward_stepped}
+use Rattle.canvas.specs.Drawing.{new_line, onward}
+use Rattle.canvas.proofs.Arrivals.{onward_stepped}
 use Rattle.panel.specs.Lawful.{Lawful}
 use Rattle.panel.specs.Meaning.{Meaning, feeds, of}
 use Rattle.panel.proofs.Feeds.{at_ready}
@@ -29,29 +29,16 @@ wipes m = refl
 
 inks : (s : Surface) (p : ℕ) → p < 2 → feeds fed (of s Ready) (pen_bytes p) ≡ of (inked s p) Ready
 unfolding fed
-inks s zero h = refl
-inks s (suc zero) h = refl
-inks s (suc (suc p)) h = absurd (omega arith)
+inks s p h = search rules
 
 -- a new line above the last row goes to the next row
 new_line_above : (s : Surface) → On s.size s.cursor.place → s.cursor.place.row + 1 < s.size.rows
     → new_line s ≡ moved s (next_row s.size s.cursor.place)
-new_line_above s on h =
-    let row = s.cursor.place.row in
-    let t = nat_lt (row + 1) s.size.rows in
-    let is = lt-ltb (row + 1) s.size.rows h in
-    ap line_fed (goto_return s on)
-    ∙ cond-true t _ _ is
-    ∙ ap (λ r. moved s (place_of r 0)) (sym (cond-true t (row + 1) row is))
+new_line_above s on h = search rules
 
 -- in the last column of the last row stands the corner
 at_corner : (z : Size) (p : Place) → On z p → z.columns ≤ p.column + 1 → z.rows ≤ p.row + 1 → p ≡ corner z
-at_corner z p on right down =
-    let low = on.row in
-    let left = on.column in
-    let row : p.row ≡ z.rows - 1 = omega arith in
-    let column : p.column ≡ z.columns - 1 = omega arith in
-    ap₂ place_of row column
+at_corner z p on right down = search rules
 
 -- a printed code, but on the corner, takes the after-state
 prints : (s : Surface) (c : ℕ) → On s.size s.cursor.place → (s.cursor.place ≢ corner s.size)

@@ -1,4 +1,3 @@
-pub mod Model
 pub mod Motions
 pub mod Rules
 pub mod Laws
@@ -7,5 +6,5 @@ pub mod Numbers
 pub mod Keeps
 pub mod Moves
 pub mod Steps
-pub mod Invariant
 pub mod Marks
+pub mod Follows

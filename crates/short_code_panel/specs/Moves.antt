@@ -1,8 +1,7 @@
 -- The bytes of a motion lead where the motion lands. Assumes nothing.
-use Rattle.std.specs.Prelude.{◌≡◌, ℕ, ◌+◌, ◌-◌, ◌<◌, Some}
+use Rattle.std.specs.Prelude.{◌≡◌, ◌<◌, Some}
 use Rattle.std.proofs.Math.Path.{refl}
-use Rattle.std.proofs.Common.{ap, ap₂, ◌∙◌, arith}
-use Rattle.display.specs.Cell.{Code}
+use Rattle.std.proofs.Common.{ap, ◌∙◌, arith, rules}
 use Rattle.display.specs.Place.{On}
 use Rattle.display.specs.Steps.{above, below, left_of, right_of, standing}
 use Rattle.display.specs.Surface.{Surface, moved, place_of}
@@ -10,14 +9,12 @@ use Rattle.display.specs.declared.place.Place.{Place}
 use Rattle.display.proofs.Places.{above_on, left_on, right_on, standing_is, when_unheld}
 use Rattle.canvas.specs.Drawing.{goto, line_fed, went}
 use Rattle.canvas.proofs.Arrivals.{goto_on, goto_return, line_fed_below, went_on}
-use Rattle.panel.specs.Meaning.{Meaning, feeds, of}
+use Rattle.panel.specs.Meaning.{feeds, of}
 use Rattle.short_code_panel.specs.Motions.{Reaches, offered, spelled}
-use Rattle.short_code_panel.specs.Rules.{addressed, fed}
+use Rattle.short_code_panel.specs.Rules.{addressed, coded, fed}
 use Rattle.short_code_panel.specs.declared.motions.Motion.{Motion}
 use Rattle.short_code_panel.specs.declared.motions.Motion.TheVariants.{Return, Back, Feed, Up, Right, Home, Address}
-use Rattle.short_code_panel.specs.declared.reading.Reading.{Reading}
 use Rattle.short_code_panel.specs.declared.reading.Reading.TheVariants.{Ready}
-use Rattle.short_code_panel.specs.Steps.{fed_column, fed_equals, fed_escape, fed_row}
 
 module _ (s : Surface) where
   abbrev here : Place
@@ -51,19 +48,8 @@ module _ (s : Surface) where
   -- ESC, = and the two coordinates
   address_read : (p : Place) → p.row < 95 → p.column < 95
       → feeds fed (of s Ready) (spelled (Address p)) ≡ of (addressed s p.row p.column) Ready
-  address_read p low left =
-      let r = 0x20 + p.row in
-      let c = 0x20 + p.column in
-      let row : r - 0x20 ≡ p.row = omega arith in
-      let column : c - 0x20 ≡ p.column = omega arith in
-      let row-code : Code r = record { least = omega arith; most = omega arith } in
-      let column-code : Code c = record { least = omega arith; most = omega arith } in
-      let then : Meaning Reading → ℕ → Meaning Reading = λ m b. fed m b in
-      ap (λ m. then (then (then m 0x3d) r) c) (fed_escape s Ready)
-      ∙ ap (λ m. then (then m r) c) (fed_equals s)
-      ∙ ap (λ m. then m c) (fed_row s r row-code)
-      ∙ fed_column s (r - 0x20) c column-code
-      ∙ ap₂ (λ x y. of (addressed s x y) Ready) row column
+  unfolding fed coded
+  address_read p low left = search rules
 
   module _ (on : On s.size here) where
     there : (t : Surface) (p : Place) → t ≡ moved s p → of t Ready ≡ of (moved s p) Ready

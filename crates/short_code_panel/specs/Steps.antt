@@ -1,10 +1,10 @@
 -- What each byte does. Assumes nothing.
 use Rattle.std.specs.Prelude.{◌≡◌, ℕ, ◌-◌, ◌<◌, ◌≤◌, ◌==◌, ◌≢◌, nat_lt, refl}
-use Rattle.std.proofs.Common.{ap, ◌∙◌, arith}
-use Rattle.std.proofs.lemmas.Bool.{cond-false, cond-true, le-ltb, lt-ltb, ne_eqb}
+use Rattle.std.proofs.Common.{ap, ◌∙◌, arith, rules}
+use Rattle.std.proofs.lemmas.Bool.{cond-false, cond-true, lt-ltb, ne_eqb}
 use Rattle.display.specs.Cell.{Code, is_code}
 use Rattle.display.specs.Surface.{Surface}
-use Rattle.display.proofs.Codes.{code_true, not_code}
+use Rattle.display.proofs.Codes.{not_code}
 use Rattle.panel.specs.Meaning.{of}
 use Rattle.short_code_panel.specs.Rules.{acted, addressed, coded, fed, printed}
 use Rattle.short_code_panel.specs.declared.reading.Reading.{Reading}
@@ -12,7 +12,7 @@ use Rattle.short_code_panel.specs.declared.reading.Reading.TheVariants.{Ready, E
 
 pub fed_code : (s : Surface) (r : Reading) (b : ℕ) → Code b → fed (of s r) b ≡ coded s r b
 unfolding fed
-fed_code s r b code = cond-true (is_code b) (coded s r b) _ (code_true b code)
+fed_code s r b code = search rules
 
 pub fed_ready : (s : Surface) (b : ℕ) → Code b → fed (of s Ready) b ≡ of (printed s b) Ready
 unfolding coded
@@ -23,9 +23,8 @@ unfolding fed coded
 fed_equals s = refl
 
 pub fed_other_escape : (s : Surface) (b : ℕ) → Code b → (b ≢ 0x3d) → fed (of s Escape) b ≡ of s Ready
-unfolding coded
-fed_other_escape s b code other =
-    fed_code s Escape b code ∙ ap (of s) (cond-false (b == 0x3d) Row Ready (ne_eqb b 0x3d other))
+unfolding fed coded
+fed_other_escape s b code other = search rules
 
 pub fed_row : (s : Surface) (b : ℕ) → Code b → fed (of s Row) b ≡ of s (Column (b - 0x20))
 unfolding coded
@@ -53,5 +52,4 @@ fed_escape s r = refl
 -- 7Fh and above do nothing
 pub fed_high : (s : Surface) (r : Reading) (b : ℕ) → (Code b → ⊥) → 0x20 ≤ b → fed (of s r) b ≡ of s r
 unfolding fed
-fed_high s r b other high =
-    cond-false (is_code b) _ _ (not_code b other) ∙ cond-false (nat_lt b 0x20) _ _ (le-ltb b 0x20 high)
+fed_high s r b other high = search rules

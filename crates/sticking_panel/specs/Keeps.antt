@@ -11,6 +11,7 @@ use Rattle.panel.specs.Meaning.{Meaning}
 use Rattle.sticking_panel.specs.Rules.{Reading, controlled, fed}
 
 module _ (z : Size) where
+  -- test by test: the search was tried on the whole, and does not close it
   fits_controlled : (s : Surface) → Fits 1 z s → (b : ℕ) → Fits 1 z (controlled s b)
   fits_controlled s k b =
       let here = s.cursor.place in

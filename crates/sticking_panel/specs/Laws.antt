@@ -1,17 +1,13 @@
 -- A panel that follows the rules is lawful, whatever its size. Assumes nothing.
-use Rattle.std.specs.Prelude.{◌≡◌, ℕ, zero, suc, ◌+◌, ◌<◌, ◌≤◌, false, length, Some, None, ◌==◌, ◌≢◌, nat_lt, refl}
-use Rattle.std.proofs.Common.{sym, ap, ◌∙◌, subst, arith}
-use Rattle.std.proofs.lemmas.Bool.{cond-false, cond-true, lt-ltb, ne_eqb}
+use Rattle.std.specs.Prelude.{◌≡◌, ℕ, ◌<◌, ◌≤◌, false, length, Some, None, ◌≢◌}
+use Rattle.std.proofs.Common.{sym, ap, ◌∙◌, subst, arith, rules}
 use Rattle.display.specs.Cell.{Code}
 use Rattle.display.specs.Place.{On}
-use Rattle.display.specs.Steps.{below, left_of}
-use Rattle.display.specs.Surface.{Surface, at_cursor, drawn, inked, place_of, resting, wiped}
+use Rattle.display.specs.Surface.{Surface, at_cursor, drawn, inked, resting, wiped}
 use Rattle.display.specs.declared.place.Cursor.{Cursor}
 use Rattle.display.specs.declared.place.Place.{Place}
 use Rattle.display.specs.declared.size.Size.{Size}
-use Rattle.display.proofs.Places.{below_on, left_on, return_on, stepped_on, when_unheld}
-use Rattle.canvas.specs.Drawing.{onward}
-use Rattle.canvas.proofs.Arrivals.{onward_stepped}
+use Rattle.display.proofs.Places.{stepped_on}
 use Rattle.panel.specs.Answers.{Bounded}
 use Rattle.panel.specs.Lawful.{Lawful}
 use Rattle.panel.specs.Meaning.{of}
@@ -20,43 +16,25 @@ use Rattle.panel.proofs.Soundness.{fits_of, sound_of}
 use Rattle.sticking_panel.specs.Motions.{answers, numbered, offered, spelled}
 use Rattle.sticking_panel.specs.Rules.{after, fed, ready}
 use Rattle.sticking_panel.specs.declared.motions.Motion.{Motion}
-use Rattle.sticking_panel.specs.declared.motions.Motion.TheVariants.{Return, Back, Feed}
 use Rattle.sticking_panel.specs.Keeps.{keeps}
-use Rattle.sticking_panel.specs.Moves.{fed_code, fed_wipe, motion_read}
+use Rattle.sticking_panel.specs.Moves.{fed_wipe, motion_read}
 
 offered_on : (z : Size) (m : Motion) (k : Cursor) (p : Place) → On z k.place → offered z k m ≡ Some p → On z p
-offered_on z Return k p on e =
-    let free = when_unheld k (Some (place_of k.place.row 0)) p e in
-    let same : place_of k.place.row 0 ≡ p = cc in
-    subst (On z) same (return_on z k.place on)
-offered_on z Back k p on e = left_on z k.place on 1 p (when_unheld k (left_of k.place 1) p e)
-offered_on z Feed k p on e = below_on z k.place on 1 p (when_unheld k (below z k.place 1) p e)
+offered_on z m k p on e = search rules
 
 one_byte : (m : Motion) → length (spelled m) ≡ 1
-one_byte Return = refl
-one_byte Back = refl
-one_byte Feed = refl
+one_byte m = search rules
 
 some : (n : ℕ) → n < 3 → numbered n ≢ None
-some zero h e = let never : ◌≡◌ {A = ℕ} 0 1 = cc in omega arith
-some (suc zero) h e = let never : ◌≡◌ {A = ℕ} 0 1 = cc in omega arith
-some (suc (suc zero)) h e = let never : ◌≡◌ {A = ℕ} 0 1 = cc in omega arith
-some (suc (suc (suc n))) h e = omega arith
+some n h e = search rules
 
 none : (n : ℕ) → 3 ≤ n → numbered n ≡ None
-none n h = cond-false (n == 0) _ _ (ne_eqb n 0 (omega arith)) ∙ cond-false (n == 1) _ _ (ne_eqb n 1 (omega arith))
-    ∙ cond-false (n == 2) _ _ (ne_eqb n 2 (omega arith))
+none n h = search rules
 
 prints : (s : Surface) (c : ℕ) → s.cursor.held ≡ false → Code c
     → fed (of s ready) c ≡ of (at_cursor (drawn s c) (after s.size s.cursor.place)) ready
-prints s c free code =
-    let t = drawn s c in
-    let here = s.cursor.place in
-    let stays : at_cursor t (record {
-      place = here;
-      held = s.cursor.held;
-    }) ≡ at_cursor t (resting here) = ap (λ h. at_cursor t (record { place = here; held = h })) free in
-    fed_code s c code ∙ ap (λ u. of (onward t u) ready) stays ∙ ap (λ u. of u ready) (onward_stepped t (resting here))
+unfolding fed
+prints s c free code = search rules
 
 module _ (z : Size) where
   named : Named z 3 numbered (offered z) spelled
@@ -78,8 +56,7 @@ module _ (z : Size) where
     some_bytes = named_least named;
     few_bytes = named_most named;
     short_delay = λ n h. omega arith;
-    after_next =
-        λ p on more. cond-true (nat_lt (p.column + 1) z.columns) _ _ (lt-ltb (p.column + 1) z.columns more);
+    after_next = λ p on more. search rules;
     after_on = λ p on. stepped_on z p (resting p) on on;
     few_pen_bytes = λ p h. omega arith;
     few_wipe_bytes = omega arith;

@@ -1,14 +1,12 @@
 -- What each byte does, and that the bytes of a motion lead where it lands. Assumes nothing.
-use Rattle.std.specs.Prelude.{◌≡◌, ℕ, Some, ◌==◌, ◌≢◌}
+use Rattle.std.specs.Prelude.{◌≡◌, ℕ, Some, ◌≢◌}
 use Rattle.std.proofs.Math.Path.{refl, ap}
-use Rattle.std.proofs.Common.{◌∙◌}
-use Rattle.std.proofs.lemmas.Bool.{cond-false, cond-true, ne_eqb}
-use Rattle.display.specs.Cell.{Code, is_code}
+use Rattle.std.proofs.Common.{◌∙◌, rules}
+use Rattle.display.specs.Cell.{Code}
 use Rattle.display.specs.Place.{On}
 use Rattle.display.specs.Steps.{below, left_of}
 use Rattle.display.specs.Surface.{Surface, moved, place_of, wiped}
 use Rattle.display.specs.declared.place.Place.{Place}
-use Rattle.display.proofs.Codes.{code_true, not_code}
 use Rattle.display.proofs.Places.{below_on, left_on, when_unheld}
 use Rattle.canvas.specs.Drawing.{goto, went}
 use Rattle.canvas.proofs.Arrivals.{goto_return, went_on}
@@ -24,7 +22,7 @@ module _ (s : Surface) where
 
   pub fed_code : (c : ℕ) → Code c → fed (of s ready) c ≡ of (printed s c) ready
   unfolding fed
-  fed_code c code = ap (λ t. of t ready) (cond-true (is_code c) _ _ (code_true c code))
+  fed_code c code = search rules
 
   pub fed_back : fed (of s ready) 0x08 ≡ of (went s (left_of here 1)) ready
   unfolding fed
@@ -46,13 +44,7 @@ module _ (s : Surface) where
   pub fed_ignored : (b : ℕ) → (Code b → ⊥) → (b ≢ 0x08) → (b ≢ 0x0a) → (b ≢ 0x0d) → (b ≢ 0x0c)
       → fed (of s ready) b ≡ of s ready
   unfolding fed
-  fed_ignored b other back feed return wipe =
-      ap (λ t. of t ready) (
-      cond-false (is_code b) _ _ (not_code b other)
-      ∙ cond-false (b == 0x08) _ _ (ne_eqb b 0x08 back)
-      ∙ cond-false (b == 0x0a) _ _ (ne_eqb b 0x0a feed)
-      ∙ cond-false (b == 0x0d) _ _ (ne_eqb b 0x0d return)
-      ∙ cond-false (b == 0x0c) _ _ (ne_eqb b 0x0c wipe))
+  fed_ignored b other back feed return wipe = search rules
 
   module _ (on : On s.size here) where
     there : (t : Surface) (p : Place) → t ≡ moved s p → of t ready ≡ of (moved s p) ready

@@ -4,3 +4,4 @@
 
 pub mod model;
 mod motions;
+mod reading;

@@ -1,2 +1,5 @@
-mod Cells
-mod Joins
+pub mod Cells
+pub mod Cut
+pub mod Digits
+pub mod Joins
+pub mod Limit

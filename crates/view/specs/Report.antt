@@ -10,14 +10,12 @@
 --     reported n s b     the whole report: n bytes were read, the surface is s, and b says whether the panel is ready
 --     Reports r m n bs   bs is the report on a panel that means m after n bytes, where r is the reading state in
 --                        which it is ready
-use Rattle.std.specs.Prelude.{◌≡◌, ℕ, ◌+◌, ◌*◌, ◌%◌, Bool, true, cond, not, ◌&&◌, List, [], ◌∷◌, ◌++◌, map, take, drop, codes, decimal, Decides, ◌==◌, bit_and, nat_lt}
-use Rattle.std.specs.List.{range_with_len, flat_map}
+use Rattle.std.specs.Prelude.{◌≡◌, ℕ, ◌+◌, ◌*◌, ◌%◌, Bool, cond, not, List, [], ◌∷◌, ◌++◌, map, take, drop, codes, decimal, Decides, ◌==◌, bit_and, nat_lt}
+use Rattle.std.specs.List.{range_with_len, flat_map, list_all}
 use Rattle.display.specs.Surface.{Surface}
 use Rattle.display.specs.declared.cell.Glyph.{Glyph}
 use Rattle.display.specs.declared.place.Cursor.{Cursor}
 use Rattle.panel.specs.Meaning.{Meaning}
-use Rattle.view.specs.declared.rows.Writing.{Writing}
-use Rattle.view.specs.declared.rows.Writing.TheVariants.{Codes, Pens}
 
 abbrev pub line : List ℕ → List ℕ
 line bs = bs ++ (10 ∷ [])
@@ -40,14 +38,8 @@ hex_digit n = cond (nat_lt n 10) (48 + n) (55 + n)
 abbrev pub pen_digit : Glyph → ℕ
 pen_digit g = hex_digit (g.pen % 16)
 
--- how a row writes its cells
-abbrev pub writes : Writing → Glyph → ℕ
-writes Codes = code_of
-writes Pens = pen_digit
-
 abbrev pub plain : List Glyph → Bool
-plain [] = true
-plain (g ∷ gs) = g.pen == 0 && plain gs
+plain gs = list_all (λ g. g.pen == 0) gs
 
 abbrev pub word : ℕ → ℕ → List ℕ → List ℕ
 word p bit name = cond (not (bit_and p bit == 0)) name []

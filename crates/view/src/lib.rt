@@ -3,7 +3,7 @@
 
 pub mod arguments;
 pub mod input;
-mod pieces;
+mod lines;
 pub mod report;
 pub mod requests;
 mod rows;

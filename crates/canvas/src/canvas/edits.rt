@@ -1,29 +1,27 @@
 // What is done to a canvas.
 ghost use Rattle.std.specs.Prelude.{◌≡◌, ◌+◌, ◌<◌, Decides};
 ghost use Rattle.display.specs.Surface.{drawn, inked, moved, wiped};
-ghost use Rattle.canvas.specs.Drawing.{cleared, goto, holding, line_fed, new_line, onward, scrolled, surface, went};
+ghost use Rattle.canvas.specs.Drawing.{cleared, goto, holding, line_fed, new_line, onward, scrolled, went};
 
 use super::Canvas;
-use crate::blanks::{blank_from, scroll_by};
 use display::cell::Glyph;
 use display::place::{Cursor, Place};
 
 impl Canvas {
     // Moves the cursor, unheld, to a row and a column, or to the edge where they lie beyond it.
     pub fn move_to(&mut self, row: usize, column: usize)
-        ensures { surface self.new ≡ goto (surface self.old) row column }
+        ensures { self.new ≡ goto self.old row column }
     {
         let last_row = self.size.rows - 1;
         let last_column = self.size.columns - 1;
         let row = row.min(last_row as usize) as u8;
         let column = column.min(last_column as usize) as u8;
-        self.cursor.place = Place { row, column };
-        self.cursor.held = false;
+        self.cursor = Cursor::from(Place { row, column });
     }
 
     // Moves the cursor, unheld, to a place, if there is one to go to.
     pub fn step(&mut self, to: Option<Place>)
-        ensures { surface self.new ≡ went (surface self.old) to }
+        ensures { self.new ≡ went self.old to }
     {
         if let Some(place) = to {
             self.move_to(place.row as usize, place.column as usize);
@@ -32,23 +30,23 @@ impl Canvas {
 
     // Marks the cursor as held where it stands.
     pub fn hold(&mut self)
-        ensures { surface self.new ≡ holding (surface self.old) }
+        ensures { self.new ≡ holding self.old }
     {
         self.cursor.held = true;
     }
 
     // Sets the cell at the cursor to a code and the pen now set.
     pub fn draw(&mut self, code: u8)
-        ensures { surface self.new ≡ drawn (surface self.old) code }
+        ensures { self.new ≡ drawn self.old code }
     {
         let pen = self.pen;
-        let at = self.index_of(self.cursor.place);
+        let at = self.size.number(self.cursor.place);
         self.cells[at] = Glyph { code, pen };
     }
 
     // Moves the cursor a row down, unheld. On the last row the picture moves up a row in its place.
     pub fn line_feed(&mut self)
-        ensures { surface self.new ≡ line_fed (surface self.old) }
+        ensures { self.new ≡ line_fed self.old }
     {
         self.cursor.held = false;
         if self.cursor.place.row + 1 < self.size.rows {
@@ -60,7 +58,7 @@ impl Canvas {
 
     // Moves the cursor to column 0 of the next row, unheld. On the last row the picture moves up a row in its place.
     pub fn new_line(&mut self)
-        ensures { surface self.new ≡ new_line (surface self.old) }
+        ensures { self.new ≡ new_line self.old }
     {
         self.move_to(self.cursor.place.row as usize, 0);
         self.line_feed();
@@ -68,10 +66,10 @@ impl Canvas {
 
     // Moves the cursor a column to the right, unheld, and tells that it did. In the last column nothing changes.
     pub fn advance(&mut self) -> bool
-        ensures after { surface self.new
-            ≡ onward (surface self.old) (surface self.old) }
+        ensures after { self.new
+            ≡ onward self.old self.old }
         ensures told { Decides result
-            ((surface self.old).cursor.place.column + 1 < (surface self.old).size.columns) }
+            (self.old.cursor.place.column + 1 < self.old.size.columns) }
     {
         let column = self.cursor.place.column + 1;
         if column < self.size.columns {
@@ -84,43 +82,41 @@ impl Canvas {
 
     // Moves the picture up a row. The last row is then blank.
     fn scroll(&mut self)
-        ensures { surface self.new ≡ scrolled (surface self.old) }
+        ensures { self.new ≡ scrolled self.old }
     {
         let columns = self.size.columns as usize;
-        scroll_by(self.cells.as_mut_slice(), columns);
+        let kept = self.cells.len() - columns;
+        self.cells.rotate_left(columns);
+        self.cells[kept..].fill(Glyph::BLANK);
     }
 
     // Blanks every cell and leaves the cursor where it stands, unheld.
     pub fn clear(&mut self)
-        ensures { surface self.new
-            ≡ moved (cleared (surface self.old)) (surface self.old).cursor.place }
+        ensures { self.new
+            ≡ moved (cleared self.old) self.old.cursor.place }
     {
         self.blank_cells();
-        let place = self.cursor.place;
-        self.cursor = Cursor { place, held: false };
+        self.cursor = Cursor::from(self.cursor.place);
     }
 
     // Blanks every cell, moves the cursor to the first place, unheld, and sets pen 0.
     pub fn wipe(&mut self)
-        ensures { surface self.new ≡ wiped (surface self.old).size }
+        ensures { self.new ≡ wiped self.old.size }
     {
         self.blank_cells();
-        self.cursor = Cursor {
-            place: Place { row: 0, column: 0 },
-            held: false,
-        };
+        self.cursor = Cursor::default();
         self.pen = 0;
     }
 
     fn blank_cells(&mut self)
-        ensures { surface self.new ≡ cleared (surface self.old) }
+        ensures { self.new ≡ cleared self.old }
     {
-        blank_from(self.cells.as_mut_slice(), 0);
+        self.cells.fill(Glyph::BLANK);
     }
 
     // Sets the pen.
     pub fn set_pen(&mut self, pen: u8)
-        ensures { surface self.new ≡ inked (surface self.old) pen }
+        ensures { self.new ≡ inked self.old pen }
     {
         self.pen = pen;
     }

@@ -1,17 +1,14 @@
-ghost use Rattle.display.specs.Cell.{attributed_admits, glyph_of};
+ghost use Rattle.display.specs.Cell.{attributed_admits};
 ghost use Rattle.std.proofs.Common.{rules};
 
-use super::Cell;
+use super::{Cell, Glyph, is_printable};
 
-// A cell that admits every pen.
-#[derive(Clone, Copy, Debug)]
-pub struct Attributed {
-    code: u8,
-    pen: u8,
-}
+// A cell that admits every pen: a glyph.
+#[derive(Clone, Copy, Debug, PartialEq, Eq)]
+pub struct Attributed(Glyph);
 
 impl Cell for Attributed {
-    ghost glyph = { λ c. glyph_of c.code c.pen };
+    ghost glyph = { λ c. c.0 };
 
     ghost admits = { attributed_admits };
 
@@ -19,22 +16,21 @@ impl Cell for Attributed {
 
     ghost only_codes = { Prim.search rules };
 
+    // What is admitted is all that the two types of cells differ in.
     fn build(code: u8, pen: u8) -> Option<Attributed> {
-        if code < 0x20 || code > 0x7E || pen > 15 {
-            return None;
-        }
-        Some(Attributed { code, pen })
+        (is_printable(code) && pen <= 15).then_some(Attributed(Glyph { code, pen }))
     }
 
     fn code(&self) -> u8 {
-        self.code
+        self.0.code
     }
 
     fn pen(&self) -> u8 {
-        self.pen
+        self.0.pen
     }
 
+    // the derived `==`, as `Cell` tells
     fn same(&self, other: &Attributed) -> bool {
-        other.code == self.code && other.pen == self.pen
+        self == other
     }
 }

@@ -1,16 +1,14 @@
 ghost use Rattle.display.specs.Cell.{glyph_of, plain_admits};
 ghost use Rattle.std.proofs.Common.{rules};
 
-use super::Cell;
+use super::{Cell, is_printable};
 
-// A cell that admits pen 0 only.
-#[derive(Clone, Copy, Debug)]
-pub struct Plain {
-    code: u8,
-}
+// A cell that admits pen 0 only: a code.
+#[derive(Clone, Copy, Debug, PartialEq, Eq)]
+pub struct Plain(u8);
 
 impl Cell for Plain {
-    ghost glyph = { λ c. glyph_of c.code 0 };
+    ghost glyph = { λ c. glyph_of c.0 0 };
 
     ghost admits = { plain_admits };
 
@@ -18,22 +16,21 @@ impl Cell for Plain {
 
     ghost only_codes = { Prim.search rules };
 
+    // What is admitted is all that the two types of cells differ in.
     fn build(code: u8, pen: u8) -> Option<Plain> {
-        if code < 0x20 || code > 0x7E || pen != 0 {
-            return None;
-        }
-        Some(Plain { code })
+        (is_printable(code) && pen == 0).then_some(Plain(code))
     }
 
     fn code(&self) -> u8 {
-        self.code
+        self.0
     }
 
     fn pen(&self) -> u8 {
         0
     }
 
+    // the derived `==`, as `Cell` tells
     fn same(&self, other: &Plain) -> bool {
-        other.code == self.code
+        self == other
     }
 }

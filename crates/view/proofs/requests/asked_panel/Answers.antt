@@ -1,7 +1,7 @@
--- Words that ask for a panel ask for its size, of whatever kind it is.
-use Rattle.std.proofs.Common.{refl}
+-- Words that ask for a panel ask for its size.
+-- By hand: the search does not find it, also with this as a lemma that is named on the function: the step through
+-- `from_residual`, after which the size is that of the request.
 use Rattle.view.proofs.requests.asked_panel.Goals as goal
 
-pub returns-in_default-asked_size : goal.returns-in_default-asked_size
-returns-in_default-asked_size c q asked =
-    c.in_default-asked_size.ensures q.size (record { kind = refl; rows = asked.rows; columns = asked.columns })
+pub returns-in_err-size : goal.returns-in_err-size
+returns-in_err-size c = rw c.from_residual-in_err-size.ensures (λ q asked. c.in_err-size.ensures q.size asked.rows asked.columns)

@@ -1,8 +1,0 @@
-use Rattle.std.proofs.Common.{◌≡◌, ◌≤◌, ◌++◌, length, take}
-use Rattle.panel.specs.Bytes.{bytes_of}
-use Rattle.panel.proofs.bytes.ShortBytes.append.Given as goal
-
--- the bytes so far stand at the end, as far as there is room
-abbrev pub invariant-loop-byte : goal.invariant-loop-byte
-invariant-loop-byte l = (l.byte-index ≤ length l.bytes)
-    × (bytes_of l.self ≡ take 16 (bytes_of l.initial.self ++ take l.byte-index l.bytes))

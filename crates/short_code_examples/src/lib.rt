@@ -1,7 +1,0 @@
-// Examples of the short-code panel, as tests: what it shows after a stream, and what it answers.
-#![tactic(auto)]
-
-#[cfg(test)]
-mod answers;
-#[cfg(test)]
-mod streams;
