@@ -9,16 +9,16 @@ use std::process::Abort;
 use std::test::Fail;
 use view::report::show;
 
-pub fn size(rows: usize, columns: usize) -> Result<Size, Fail> {
+pub(crate) fn size(rows: usize, columns: usize) -> Result<Size, Fail> {
     Ok(Size::new(rows, columns).ok_or("no size")?)
 }
 
 // A panel of a kind, as wiped.
-pub fn new<K: Kind>(heap: Global, rows: usize, columns: usize) -> Result<Model<K>, Fail> {
+pub(crate) fn new<K: Kind>(heap: Global, rows: usize, columns: usize) -> Result<Model<K>, Fail> {
     Ok(Model::new(heap, size(rows, columns)?)?)
 }
 
-pub fn at(row: u8, column: u8, held: bool) -> Cursor {
+pub(crate) fn at(row: u8, column: u8, held: bool) -> Cursor {
     Cursor {
         place: Place { row, column },
         held,
@@ -26,7 +26,7 @@ pub fn at(row: u8, column: u8, held: bool) -> Cursor {
 }
 
 // Feeds a panel some bytes; it then shows the text.
-pub fn shows<P: Readout>(
+pub(crate) fn shows<P: Readout>(
     rt: &(impl Abort + AllocGlobal),
     panel: &mut P,
     bytes: &[u8],
@@ -38,7 +38,7 @@ pub fn shows<P: Readout>(
 }
 
 // Each example on a panel of its own: its rows and columns, the bytes, and what it then shows.
-pub fn each_shows<K: Kind>(
+pub(crate) fn each_shows<K: Kind>(
     rt: &(impl Abort + AllocGlobal),
     examples: &[(usize, usize, &str, &str)],
 ) -> Result<(), Fail> {
