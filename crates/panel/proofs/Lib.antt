@@ -1,4 +1,5 @@
 pub mod Capped
 pub mod Feeds
+pub mod Letters
 pub mod Motions
 pub mod Soundness

@@ -2,12 +2,14 @@
 --     Sound a m          m is a meaning that a panel with the answers a can have
 --     Free a p           a code may be printed at the place p: it is no unsafe corner
 --     Open a s           a code may be printed at the cursor of the surface s
---     Lands r a m n m'   a panel that means m and is ready, fed the bytes of a motion n that is offered, means m': it lands where it
---                        was told, unheld and ready, and nothing else has changed
---     Prints r a m c m'  one that is ready and unheld, fed the code c, has set the cell at the cursor and taken the after-state, and
---                        nothing else has changed
+--     Lands r a m n m'   a panel that means m and is ready, fed the bytes of a motion n that is offered, means m': it
+--                        lands where it was told, unheld and ready, and nothing else has changed
+--     Prints r a m c m'  one that is ready and unheld, fed the code c, has set the cell at the cursor and taken the
+--                        after-state, and nothing else has changed
 --     Inks r a m p m'    one that is ready, fed the bytes of the pen p, has set that pen, and nothing else has changed
---     Lawful r a f       the laws of a panel with the answers a, the step f of one byte, and the reading state r in which it is ready
+--     Wipes r a m'       one that is fed the wipe bytes means m': all blanks, the first place, unheld, pen 0, ready
+--     Lawful r a f       the laws of a panel with the answers a, the step f of one byte, and the reading state r in
+--                        which it is ready
 use Rattle.std.specs.Prelude.{◌≡◌, ℕ, ◌<◌, false, Some, ◌≢◌}
 use Rattle.display.specs.Cell.{Code}
 use Rattle.display.specs.Surface.{Surface, Within, at_cursor, corner, drawn, inked, moved, wiped}
@@ -37,6 +39,9 @@ Prints ready a m c after =
 abbrev pub Inks : {Mode : Type 0} → Mode → Answers → Meaning Mode → ℕ → Meaning Mode → Type 0
 Inks ready a m p after = m.mode ≡ ready → p < a.pens → after ≡ of (inked m.surface p) ready
 
+abbrev pub Wipes : {Mode : Type 0} → Mode → Answers → Meaning Mode → Type 0
+Wipes ready a after = after ≡ of (wiped a.size) ready
+
 pub record Lawful {Mode : Type 0} (ready : Mode) (a : Answers) (f : Meaning Mode → ℕ → Meaning Mode) : Type 0 where
   pub bounded : Bounded a
   -- every byte leads from a meaning that the panel can have to another
@@ -45,4 +50,4 @@ pub record Lawful {Mode : Type 0} (ready : Mode) (a : Answers) (f : Meaning Mode
   pub prints : (m : Meaning Mode) (c : ℕ) → Sound a m → Prints ready a m c (f m c)
   pub inks : (m : Meaning Mode) (p : ℕ) → Sound a m → Inks ready a m p (feeds f m (a.pen_bytes p))
   -- from every meaning the wipe bytes give the same one
-  pub wipes : (m : Meaning Mode) → Sound a m → feeds f m a.wipe ≡ of (wiped a.size) ready
+  pub wipes : (m : Meaning Mode) → Sound a m → Wipes ready a (feeds f m a.wipe)

@@ -1,9 +1,8 @@
 // Feeding whole byte strings, and what the laws give of them. What a call feeds, and that the answers stay, are clauses
 // of each: they speak of two states of a panel, and an invariant speaks of one.
 ghost use Rattle.std.specs.Prelude.{◌≡◌, length};
-ghost use Rattle.display.specs.Surface.{wiped};
-ghost use Rattle.panel.specs.Lawful.{Inks, Lands, Prints};
-ghost use Rattle.panel.specs.Meaning.{feeds, of};
+ghost use Rattle.panel.specs.Lawful.{Inks, Lands, Prints, Wipes};
+ghost use Rattle.panel.specs.Meaning.{feeds};
 
 use crate::panel::Panel;
 
@@ -62,7 +61,9 @@ pub fn feed_pen<P: Panel>(panel: &mut P, pen: u8)
 // ready.
 pub fn feed_wipe<P: Panel>(panel: &mut P)
     ensures fixed { P.answers panel.new ≡ P.answers panel.old }
-    ensures wipes { P.meaning panel.new ≡ of (wiped (P.answers panel.old).size) P.ready }
+    ensures after { P.meaning panel.new
+        ≡ feeds (P.fed (P.answers panel.old)) (P.meaning panel.old) (P.answers panel.old).wipe }
+    ensures wipes { Wipes P.ready (P.answers panel.old) (P.meaning panel.new) }
 {
     let bytes = panel.wipe_bytes();
     feed_all(panel, bytes.as_slice());

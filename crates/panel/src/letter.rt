@@ -17,11 +17,12 @@ fn may_print<P: Panel>(panel: &P, place: Place) -> bool
 
 // Wipes the panel, moves to a place, sets a pen and prints a code. Pen and code stand apart, as they are fed; the rules
 // number motions; that the answers stay is a clause, as it speaks of two states of a panel.
+#[tactic(auto, using(crate::proofs::Letters::fed_apart, crate::proofs::Letters::few_bytes))]
 fn print_at<P: Panel>(panel: &mut P, motion: u16, place: Place, pen: u8, code: u8) -> Cursor
     requires { Possible (P.answers panel.old) motion pen code place }
     ensures fixed { P.answers panel.new ≡ P.answers panel.old }
-    ensures shown { Shown P.ready (P.answers panel.old) motion pen code place
-        (P.meaning panel.new) result }
+    ensures shown { Shown P.ready (P.answers panel.old) (P.fed (P.answers panel.old)) motion pen code place
+        (P.meaning panel.old) (P.meaning panel.new) result }
 {
     feed_wipe(panel);
     feed_motion(panel, motion);
@@ -35,8 +36,8 @@ fn print_at<P: Panel>(panel: &mut P, motion: u16, place: Place, pen: u8, code: u
 // the byte is no code, nothing is answered and the panel is left alone. Motion, pen and code stand as they do above.
 pub fn show_letter<P: Panel>(panel: &mut P, motion: u16, pen: u8, code: u8) -> Option<Cursor>
     ensures fixed { P.answers panel.new ≡ P.answers panel.old }
-    ensures shows { Shows P.ready (P.answers panel.old) motion pen code (P.meaning panel.old)
-        (P.meaning panel.new) result }
+    ensures shows { Shows P.ready (P.answers panel.old) (P.fed (P.answers panel.old)) motion pen code
+        (P.meaning panel.old) (P.meaning panel.new) result }
 {
     let place = panel.landing(motion, Cursor::default())?;
     if pen >= panel.pens() || !is_printable(code) || !may_print(panel, place) {
