@@ -8,9 +8,11 @@
 --                        after-state, and nothing else has changed
 --     Inks r a m p m'    one that is ready, fed the bytes of the pen p, has set that pen, and nothing else has changed
 --     Wipes r a m'       one that is fed the wipe bytes means m': all blanks, the first place, unheld, pen 0, ready
+--     Keeps a f bs       from every meaning that a panel with the answers a can have the bytes bs lead to another; f is the
+--                        step of one byte
 --     Lawful r a f       the laws of a panel with the answers a, the step f of one byte, and the reading state r in
 --                        which it is ready
-use Rattle.std.specs.Prelude.{◌≡◌, ℕ, ◌<◌, false, Some, ◌≢◌}
+use Rattle.std.specs.Prelude.{◌≡◌, ℕ, ◌<◌, false, List, Some, ◌≢◌}
 use Rattle.display.specs.Cell.{Code}
 use Rattle.display.specs.Surface.{Surface, Within, at_cursor, corner, drawn, inked, moved, wiped}
 use Rattle.display.specs.declared.place.Place.{Place}
@@ -41,6 +43,9 @@ Inks ready a m p after = m.mode ≡ ready → p < a.pens → after ≡ of (inked
 
 abbrev pub Wipes : {Mode : Type 0} → Mode → Answers → Meaning Mode → Type 0
 Wipes ready a after = after ≡ of (wiped a.size) ready
+
+unfoldable pub Keeps : {Mode : Type 0} → Answers → (Meaning Mode → ℕ → Meaning Mode) → List ℕ → Type 0
+Keeps {Mode} a f bs = (m : Meaning Mode) → Sound a m → Sound a (feeds f m bs)
 
 pub record Lawful {Mode : Type 0} (ready : Mode) (a : Answers) (f : Meaning Mode → ℕ → Meaning Mode) : Type 0 where
   pub bounded : Bounded a

@@ -1,17 +1,19 @@
 // Feeding whole byte strings, and what the laws give of them. What a call feeds, and that the answers stay, are clauses
 // of each: they speak of two states of a panel, and an invariant speaks of one.
 ghost use Rattle.std.specs.Prelude.{◌≡◌, length};
-ghost use Rattle.panel.specs.Lawful.{Inks, Lands, Prints, Wipes};
+ghost use Rattle.panel.specs.Lawful.{Inks, Keeps, Lands, Prints, Wipes};
 ghost use Rattle.panel.specs.Meaning.{feeds};
 
 use crate::panel::Panel;
 
-// Feeds some bytes and tells how many they were.
+// Feeds some bytes and tells how many they were. Whatever such a panel can mean, they lead to what it can mean.
+#[tactic(auto, using(crate::proofs::Feeds::feeds_keep))]
 pub fn feed_all<P: Panel>(panel: &mut P, bytes: &[u8]) -> usize
     ensures count { result ≡ length bytes.now }
     ensures fixed { P.answers panel.new ≡ P.answers panel.old }
     ensures after { P.meaning panel.new
         ≡ feeds (P.fed (P.answers panel.old)) (P.meaning panel.old) bytes.now }
+    ensures keeps { Keeps (P.answers panel.old) (P.fed (P.answers panel.old)) bytes.now }
 {
     for byte in bytes {
         panel.feed(*byte);
