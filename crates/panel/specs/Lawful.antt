@@ -8,8 +8,8 @@
 --                        after-state, and nothing else has changed
 --     Inks r a m p m'    one that is ready, fed the bytes of the pen p, has set that pen, and nothing else has changed
 --     Wipes r a m'       one that is fed the wipe bytes means m': all blanks, the first place, unheld, pen 0, ready
---     Keeps a f bs       from every meaning that a panel with the answers a can have the bytes bs lead to another; f is the
---                        step of one byte
+--     Keeps a f bs       from every meaning that a panel with the answers a can have the bytes bs lead to another; f is
+--                        the step of one byte
 --     Lawful r a f       the laws of a panel with the answers a, the step f of one byte, and the reading state r in
 --                        which it is ready
 use Rattle.std.specs.Prelude.{◌≡◌, ℕ, ◌<◌, false, List, Some, ◌≢◌}
