@@ -1,8 +1,14 @@
-// Shows the picture that a stream of bytes leaves on a panel.
+// Shows the picture that a stream of bytes leaves on a panel, and the leg from there to a place.
 #![tactic(auto)]
 
 use anyhow::anyhow;
+use cost::byte::ByteCost;
+use cost::line::LineCost;
 use dec_panel::model::DecPanel;
+use leg_view::costs::Worded;
+use leg_view::report::leg_to;
+use leg_view::requests::{Costing, Request as LegRequest, asked_leg};
+use motion_order::charted::Charted;
 use panel::readout::Readout;
 use short_code_panel::model::ShortCodePanel;
 use std::env;
@@ -14,17 +20,36 @@ use view::report::show;
 use view::requests::{Kind, Request, asked_panel};
 
 const USAGE: &str =
-    "usage: panelview [KIND ROWS COLUMNS]: KIND D, C or T, ROWS 1 to 24, COLUMNS 2 to 80; without them D 24 80";
+    "usage: panelview [KIND ROWS COLUMNS [COST ROW COLUMN]]: D, C or T, 1 to 24, 2 to 80, byte or line; else D 24 80";
 
-// The panel that the arguments ask for.
-fn panel_from_arguments(rt: &HostRuntime) -> anyhow::Result<Request> {
-    let words: Vec<String> = env::args(rt)?.skip(1).collect(rt.alloc())?;
-    match words.as_slice() {
-        [] => asked_panel("D", "24", "80"),
-        [kind, rows, columns] => asked_panel(kind, rows, columns),
+// What the arguments ask for: a panel, and a leg on it perhaps.
+struct Wanted {
+    panel: Request,
+    leg: Option<LegRequest>,
+}
+
+// The panel and the leg that some words ask for, or nothing where they do not ask for one.
+fn asked(words: &[String]) -> Option<Wanted> {
+    match words {
+        [] => Some(Wanted {
+            panel: asked_panel("D", "24", "80")?,
+            leg: None,
+        }),
+        [kind, rows, columns] => Some(Wanted {
+            panel: asked_panel(kind, rows, columns)?,
+            leg: None,
+        }),
+        [kind, rows, columns, cost, row, column] => Some(Wanted {
+            panel: asked_panel(kind, rows, columns)?,
+            leg: Some(asked_leg(cost, row, column)?),
+        }),
         _ => None,
     }
-    .ok_or_else(|| anyhow!(USAGE))
+}
+
+fn read_arguments(rt: &HostRuntime) -> anyhow::Result<Wanted> {
+    let words: Vec<String> = env::args(rt)?.skip(1).collect(rt.alloc())?;
+    asked(&words).ok_or_else(|| anyhow!(USAGE))
 }
 
 // All of standard input, unless it is longer than the limit.
@@ -43,20 +68,43 @@ fn read_input(rt: &HostRuntime) -> anyhow::Result<Vec<u8>> {
     Ok(input)
 }
 
-// Feeds the input to a panel and prints what it then shows.
-fn show_on<P: Readout + Drop>(rt: &HostRuntime, mut panel: P, input: &[u8]) -> anyhow::Result<()> {
-    let text = show(rt.alloc(), &mut panel, input)?;
+// The text of a leg on a panel, by one type of cost.
+fn leg_by<P: Readout + Drop, K: Worded>(
+    rt: &HostRuntime,
+    panel: P,
+    leg: LegRequest,
+) -> anyhow::Result<Vec<u8>> {
+    let charted: Charted<P, K> = Charted::new(panel);
+    Ok(leg_to(rt.alloc(), &charted, leg.row, leg.column)??)
+}
+
+// Feeds the input to a panel and prints what it then shows, and the leg from there if one is asked for.
+fn show_on<P: Readout + Drop>(
+    rt: &HostRuntime,
+    mut panel: P,
+    input: &[u8],
+    leg: Option<LegRequest>,
+) -> anyhow::Result<()> {
+    let mut text = show(rt.alloc(), &mut panel, input)?;
+    if let Some(leg) = leg {
+        let told = match leg.costing {
+            Costing::Byte => leg_by::<P, ByteCost>(rt, panel, leg)?,
+            Costing::Line => leg_by::<P, LineCost>(rt, panel, leg)?,
+        };
+        text.extend_from_slice(&told)?;
+    }
     rt.stdout().write_all(&text)?;
     Ok(())
 }
 
 fn run(rt: &HostRuntime) -> anyhow::Result<()> {
-    let Request { kind, size } = panel_from_arguments(rt)?;
+    let Wanted { panel, leg } = read_arguments(rt)?;
+    let Request { kind, size } = panel;
     let input = read_input(rt)?;
     match kind {
-        Kind::DeferredWrap => show_on(rt, DecPanel::new(rt.alloc(), size)?, &input),
-        Kind::ImmediateWrap => show_on(rt, ShortCodePanel::new(rt.alloc(), size)?, &input),
-        Kind::Sticking => show_on(rt, StickingPanel::new(rt.alloc(), size)?, &input),
+        Kind::DeferredWrap => show_on(rt, DecPanel::new(rt.alloc(), size)?, &input, leg),
+        Kind::ImmediateWrap => show_on(rt, ShortCodePanel::new(rt.alloc(), size)?, &input, leg),
+        Kind::Sticking => show_on(rt, StickingPanel::new(rt.alloc(), size)?, &input, leg),
     }
 }
 

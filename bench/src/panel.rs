@@ -1,0 +1,18 @@
+//! What a search asks of a panel.
+
+use crate::place::{Cursor, Place, Size};
+
+pub trait Panel {
+    fn size(&self) -> Size;
+
+    /// How many motions there are. They are numbered from 0.
+    fn motions(&self) -> u16;
+
+    /// Where a motion lands from a cursor, if it is offered there.
+    fn landing(&self, motion: u16, from: Cursor) -> Option<Place>;
+
+    /// The bytes of a motion: 1 to 16 of them.
+    fn bytes(&self, motion: u16) -> Vec<u8>;
+
+    fn milliseconds(&self, motion: u16) -> u16;
+}

@@ -1,0 +1,86 @@
+//! Legs whose bytes were worked out by hand, on a blank glass with pen 0 set.
+
+use crate::cost::Kind;
+use crate::dec::DecPanel;
+use crate::panel::Panel;
+use crate::place::{Cursor, Place};
+use crate::questions::{SIZE, blank_glass};
+use crate::searcher::{Scene, Searcher};
+
+#[derive(Debug)]
+pub struct Worked {
+    pub kind: Kind,
+    pub start: Cursor,
+    pub goal: Place,
+    pub bytes: &'static [u8],
+}
+
+/// Held in the last column of the first row.
+const HELD: Cursor = Cursor {
+    place: Place::new(0, 79),
+    held: true,
+};
+const FIRST: Cursor = Cursor {
+    place: Place::new(0, 0),
+    held: false,
+};
+
+pub const WORKED: [Worked; 4] = [
+    Worked {
+        kind: Kind::Byte,
+        start: FIRST,
+        goal: Place::new(0, 4),
+        bytes: b"\x1B[4C",
+    },
+    Worked {
+        kind: Kind::Line,
+        start: FIRST,
+        goal: Place::new(0, 5),
+        bytes: b"     ",
+    },
+    Worked {
+        kind: Kind::Byte,
+        start: HELD,
+        goal: Place::new(0, 79),
+        bytes: b"\r\x1B[79C",
+    },
+    Worked {
+        kind: Kind::Byte,
+        start: HELD,
+        goal: Place::new(1, 0),
+        bytes: b"\r\n",
+    },
+];
+
+impl Worked {
+    /// Whether a searcher of this kind finds it.
+    pub fn is_found_by(&self, searcher: &mut dyn Searcher) -> bool {
+        let glass = blank_glass();
+        let scene = Scene {
+            glass: &glass,
+            pen: 0,
+        };
+        let found = searcher.leg(scene, self.start, self.goal);
+        found.is_some_and(|found| sent(scene, self.start, &found.motions).as_deref() == Some(self.bytes))
+    }
+}
+
+/// The bytes of a sequence from a cursor, if each motion is offered where the one before it landed. The retype sends
+/// the code of the cell on the glass.
+pub fn sent(scene: Scene, start: Cursor, motions: &[u16]) -> Option<Vec<u8>> {
+    let panel = DecPanel { size: SIZE };
+    let mut bytes = Vec::new();
+    let mut here = start;
+    for &motion in motions {
+        let to = if motion == panel.motions() {
+            let place = here.place;
+            bytes.push(scene.glass[SIZE.number(place)].code);
+            SIZE.right_of(place, 1)
+        } else {
+            bytes.extend(panel.bytes(motion));
+            panel.landing(motion, here)
+        };
+        here = to?.resting();
+    }
+    Some(bytes)
+}

@@ -1,0 +1,4 @@
+pub mod Frontier
+pub mod Label
+pub mod Note
+pub mod Trail

@@ -1,0 +1,13 @@
+-- So many bytes have the motions so far, and there they have led.
+use Rattle.std.proofs.Common.{◌≡◌, ◌≤◌, length}
+use Rattle.leg_search.proofs.Sends.{first}
+use Rattle.legs.specs.Graph.{ends}
+use Rattle.legs.specs.Scene.{sent, steps}
+use Rattle.legs.specs.Seen.{scened}
+use Rattle.leg_search.proofs.sending.length_within.Given as goal
+
+abbrev pub invariant-loop-label : goal.invariant-loop-label
+invariant-loop-label g l =
+    (l.cursor ≡ ends (steps (scened g.P.Panel.answers g.C.Cell.glyph l.scene)) l.fn.start (first l.leg l.label-index))
+    × (l.count ≡ length (sent (scened g.P.Panel.answers g.C.Cell.glyph l.scene) l.fn.start (first l.leg l.label-index)))
+    × (l.count ≤ l.room)

@@ -1,0 +1,73 @@
+// Finding the leg from a cursor to a place.
+ghost use Rattle.std.specs.Prelude.{◌≡◌, Decides, MatchOption, length};
+ghost use Rattle.display.specs.Place.{On};
+ghost use Rattle.leg_search.specs.Find.{Astray, Covered, Finds};
+ghost use Rattle.legs.specs.Scene.{scene_of};
+
+use crate::leg::{Leg, Refusal};
+use crate::search::search;
+use cost::cost::Cost;
+use display::cell::Cell;
+use display::place::{Cursor, Place};
+use display::size::Size;
+use labels::label::Label;
+use legs::glass::Glass;
+use legs::scene::Scene;
+use motion_order::charted::Charted;
+use panel::panel::Panel;
+
+// Whether there are labels and cells enough for a search on a panel of a size.
+fn is_covered<C, K>(size: Size, glass: Glass<C>, labels: &[Label<K>]) -> bool
+    ensures { Decides result (Covered size (length labels.now) (length glass.entry.below.now)
+        (length glass.entry.from.now)) }
+{
+    let places = size.places();
+    places < labels.len() && places <= glass.below.len() && places <= glass.from.len()
+}
+
+// Whether a place is on a panel of a size.
+fn is_on(size: Size, place: Place) -> bool
+    ensures { Decides result (On size place) }
+{
+    place.row < size.rows && place.column < size.columns
+}
+
+// The first of the start and the goal that is not on a panel of a size.
+fn astray(size: Size, start: Cursor, goal: Place) -> Option<Place>
+    ensures { MatchOption result (On size start.place × On size goal) (Astray size start goal) }
+{
+    if !is_on(size, start.place) {
+        return Some(start.place);
+    }
+    if !is_on(size, goal) {
+        return Some(goal);
+    }
+    None
+}
+
+// The leg from a cursor to a place on the panel, or nothing where no sequence of motions leads there, while the glass
+// is as told and a pen is set. The search needs a label for each place and one more; some of them hold the leg's
+// motions when it is done.
+pub fn find<P: Panel, C: Cell, K: Cost>(
+    charted: &Charted<P, K>,
+    glass: Glass<C>,
+    pen: u8,
+    start: Cursor,
+    goal: Place,
+    labels: &mut [Label<K>],
+) -> Result<Option<Leg<K>>, Refusal>
+    ensures { Finds K.costs K.value
+        (scene_of (P.answers charted.now) C.glyph glass.entry.below.now glass.entry.from.now glass.entry.split pen)
+        start goal (length glass.entry.below.now) (length glass.entry.from.now) labels.old labels.new result }
+{
+    let panel = charted.panel();
+    let size = panel.size();
+    if !is_covered(size, glass, labels) {
+        return Err(Refusal::TooShort);
+    }
+    if let Some(place) = astray(size, start, goal) {
+        return Err(Refusal::Outside { place });
+    }
+    let scene = Scene { panel, glass, pen };
+    Ok(search(&scene, charted.offers(), start, goal, labels))
+}

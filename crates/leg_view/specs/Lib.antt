@@ -1,0 +1,4 @@
+pub mod Costs
+pub mod Goal
+pub mod Report
+pub mod Requests

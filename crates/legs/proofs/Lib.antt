@@ -1,0 +1,6 @@
+pub mod Order
+pub mod Ends
+pub mod Unique
+pub mod Few
+pub mod Panels
+pub mod Short

@@ -1,0 +1,6 @@
+// The order in which a search takes a panel's motions: the cheapest first, made once for a panel.
+#![tactic(auto)]
+
+pub mod charted;
+pub mod offer;
+pub mod order;

@@ -1,0 +1,49 @@
+// A motion, and what its cost is reckoned from.
+ghost use Rattle.std.specs.Prelude.{◌≡◌, ◌<◌};
+ghost use Rattle.motion_order.specs.InOrder.{Told, weighed};
+
+use cost::cost::Cost;
+use panel::panel::Panel;
+
+// The retype is counted as a motion here. Its number is the one after the last motion of the panel, which the panel
+// does not offer.
+#[derive(Clone, Copy, Debug, PartialEq, Eq)]
+pub struct Offer {
+    pub motion: u16,
+    pub milliseconds: u16,
+    pub bytes: u8,
+}
+
+impl Offer {
+    // A motion of the panel.
+    pub(crate) fn of_motion<P: Panel>(panel: &P, motion: u16) -> Offer
+        requires { motion < (P.answers panel.now).motions }
+        ensures is { result.motion ≡ motion }
+        ensures told { Told (P.answers panel.now) result }
+    {
+        let bytes = panel.motion_bytes(motion);
+        Offer {
+            motion,
+            milliseconds: panel.delay(motion),
+            bytes: bytes.as_slice().len() as u8,
+        }
+    }
+
+    // The retype: the panel prints what is there already, which is one byte and takes no time.
+    pub(crate) fn of_retype<P: Panel>(panel: &P) -> Offer
+        ensures is { result.motion ≡ (P.answers panel.now).motions }
+        ensures told { Told (P.answers panel.now) result }
+    {
+        Offer {
+            motion: panel.motions(),
+            milliseconds: 0,
+            bytes: 1,
+        }
+    }
+
+    pub fn cost<K: Cost>(&self) -> K
+        ensures { K.value result ≡ weighed K.costs self.now }
+    {
+        K::of_motion(self.bytes, self.milliseconds)
+    }
+}

@@ -1,0 +1,9 @@
+pub mod Certificate
+pub mod Landings
+pub mod Moves
+pub mod Sticking
+pub mod ShortCode
+pub mod DeferredMoves
+pub mod Deferred
+pub mod FromHeld
+pub mod Established

@@ -1,0 +1,50 @@
+-- When a row of the table is true.
+--     Sends c s k u bs      bs are the bytes of the leg by the costs c, from the cursor k to u, in the scene s
+--     NoWay c s k u         no sequence of motions leads from k to u
+--     SendsIf c s k u o     the one where o is some bytes, and the other where it is none
+--     Found c l, FoundBy c l
+--                           what the row l says, by the costs c, or by the costs of the kind c
+--     Established l         the same, by the row's own costs
+--     Worked ls             ls are the rows of the table, and each is established
+use Rattle.std.specs.Prelude.{◌≡◌, ℕ, List, Some, None, Option}
+use Rattle.std.specs.List.{AllByRecursion}
+use Rattle.cost.specs.Bytes.{byte_costs}
+use Rattle.cost.specs.Costs.{Costs}
+use Rattle.cost.specs.Line.{line_costs}
+use Rattle.display.specs.Surface.{resting}
+use Rattle.display.specs.declared.place.Cursor.{Cursor}
+use Rattle.legs.specs.Graph.{Leads}
+use Rattle.legs.specs.Leg.{Leg}
+use Rattle.legs.specs.Scene.{Scene, graph, sent}
+use Rattle.legs.specs.Sequence.{Sequence}
+use Rattle.worked_legs.specs.Scenes.{scene_of}
+use Rattle.worked_legs.specs.Table.{table}
+use Rattle.worked_legs.specs.declared.row.CostKind.{CostKind}
+use Rattle.worked_legs.specs.declared.row.CostKind.TheVariants.{Bytes, Line}
+use Rattle.worked_legs.specs.declared.row.WorkedLeg.{WorkedLeg}
+
+pub record Sends {V : Type 0} (c : Costs V) (s : Scene) (k u : Cursor) (bs : List ℕ) : Type 0 where
+  pub sequence : Sequence
+  pub leg : Leg (graph c s) k sequence u
+  pub bytes : sent s k sequence ≡ bs
+
+abbrev pub NoWay : {V : Type 0} → Costs V → Scene → Cursor → Cursor → Type 0
+NoWay c s k u = (w : Sequence) → Leads (graph c s) k w u → ⊥
+
+abbrev pub SendsIf : {V : Type 0} → Costs V → Scene → Cursor → Cursor → Option (List ℕ) → Type 0
+SendsIf c s k u None = NoWay c s k u
+SendsIf c s k u (Some bs) = Sends c s k u bs
+
+abbrev pub Found : {V : Type 0} → Costs V → WorkedLeg → Type 0
+Found c l = SendsIf c (scene_of l.panel) l.start (resting l.goal) l.bytes
+
+abbrev pub FoundBy : CostKind → WorkedLeg → Type 0
+FoundBy Bytes l = Found byte_costs l
+FoundBy Line l = Found line_costs l
+
+abbrev pub Established : WorkedLeg → Type 0
+Established l = FoundBy l.cost l
+
+pub record Worked (ls : List WorkedLeg) : Type 0 where
+  pub whole : ls ≡ table
+  pub established : AllByRecursion Established ls
