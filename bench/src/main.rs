@@ -25,7 +25,10 @@ const MOST_RATIO: f64 = 2.0;
 const PEN: u8 = 0;
 
 fn main() -> ExitCode {
-    let legs = env::args().nth(1).and_then(|legs| legs.parse().ok()).unwrap_or(LEGS);
+    let legs = env::args()
+        .nth(1)
+        .and_then(|legs| legs.parse().ok())
+        .unwrap_or(LEGS);
     let blank = questions::blank_glass();
     let filled = questions::filled_glass();
     println!(
