@@ -50,6 +50,8 @@ impl Panel for DecPanel {
         ADDRESSES_FROM + self.size.places() as u16
     }
 
+    /// Without the attribute the compiler calls it in the search, whose byte cost then takes half as long again.
+    #[inline]
     fn landing(&self, motion: u16, from: Cursor) -> Option<Place> {
         let place = from.place;
         match self.motion(motion)? {
@@ -85,6 +87,28 @@ impl Panel for DecPanel {
             Some(Motion::Up(_) | Motion::Down(_) | Motion::Right(_) | Motion::Left(_)) => 2,
             Some(Motion::Address(_)) => 5,
         }
+    }
+
+    fn after_print(&self, place: Place) -> Cursor {
+        match self.size.right_of(place, 1) {
+            Some(next) => next.resting(),
+            None => Cursor { place, held: true },
+        }
+    }
+
+    fn pen_bytes(&self, pen: u8) -> Vec<u8> {
+        let mut bytes = b"\x1B[0".to_vec();
+        for (bit, attribute) in [b";1", b";4", b";5", b";7"].into_iter().enumerate() {
+            if pen & 1 << bit != 0 {
+                bytes.extend(attribute);
+            }
+        }
+        bytes.push(b'm');
+        bytes
+    }
+
+    fn wipe_bytes(&self) -> Vec<u8> {
+        b"\x1B[0m\x1B[H\x1B[2J".to_vec()
     }
 }
 

@@ -1,19 +1,30 @@
-//! Searches for legs on the deferred-wrap panel, behind one interface, and what is asked of them.
+//! Searches for legs and screens on the deferred-wrap panel, each behind one interface, and what is asked of them.
 //!
 //! A *leg* is the least sequence of motions that brings the cursor from one place to another. `search` is the
 //! search that the proved one is measured against, `reference` finds the same legs from their definition, slowly,
 //! and `proved` calls the proved one.
+//!
+//! A *plan* is what brings a panel from the picture that it shows to a wanted one: legs, and the cells that change.
+//! `plan` and `screen` are what the proved screen is measured against, and `proved_screen` calls the proved one.
 
 pub mod cost;
 pub mod dec;
 pub mod order;
+pub mod pairs;
 pub mod panel;
 pub mod place;
+pub mod plan;
 #[cfg(feature = "proved")]
 pub mod proved;
+#[cfg(feature = "proved")]
+pub mod proved_screen;
 pub mod questions;
 pub mod random;
 pub mod reference;
+pub mod screen;
 pub mod search;
 pub mod searcher;
+pub mod sending;
+pub mod shower;
+pub mod times;
 pub mod worked;

@@ -12,6 +12,7 @@ use legs_bench::questions::{self, Question, SIZE};
 use legs_bench::reference::Reference;
 use legs_bench::search;
 use legs_bench::searcher::{Scene, Searcher};
+use legs_bench::times::median;
 use legs_bench::worked::WORKED;
 
 /// As many legs as the one argument says, or so many.
@@ -115,11 +116,6 @@ fn medians(
         }
     }
     best.into_iter().map(median).collect()
-}
-
-fn median(mut times: Vec<Duration>) -> Duration {
-    times.sort();
-    times[times.len() / 2]
 }
 
 fn print_time(name: &str, time: Duration) {

@@ -1,4 +1,4 @@
-//! What a search asks of a panel.
+//! What searches and plans ask of a panel.
 
 use crate::place::{Cursor, Place, Size};
 
@@ -15,4 +15,11 @@ pub trait Panel {
     fn bytes(&self, motion: u16) -> Vec<u8>;
 
     fn milliseconds(&self, motion: u16) -> u16;
+
+    /// The cursor after a code was printed at a place.
+    fn after_print(&self, place: Place) -> Cursor;
+
+    fn pen_bytes(&self, pen: u8) -> Vec<u8>;
+
+    fn wipe_bytes(&self) -> Vec<u8>;
 }

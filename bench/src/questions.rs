@@ -17,7 +17,7 @@ pub struct Question {
 }
 
 pub fn blank_glass() -> Vec<Cell> {
-    vec![Cell { code: b' ', pen: 0 }; SIZE.places()]
+    vec![Cell::BLANK; SIZE.places()]
 }
 
 /// Capital letters, in pens 0 to 15.
@@ -59,7 +59,7 @@ pub fn held() -> Vec<Question> {
         .collect()
 }
 
-fn any_place(random: &mut Random) -> Place {
+pub fn any_place(random: &mut Random) -> Place {
     Place::new(
         random.below(SIZE.rows.into()) as u8,
         random.below(SIZE.columns.into()) as u8,

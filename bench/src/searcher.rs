@@ -13,6 +13,10 @@ pub struct Cell {
     pub pen: u8,
 }
 
+impl Cell {
+    pub const BLANK: Cell = Cell { code: b' ', pen: 0 };
+}
+
 /// What legs depend on besides the panel: the cell at each place, and the pen now set.
 #[derive(Clone, Copy)]
 pub struct Scene<'a> {

@@ -2,10 +2,10 @@
 
 use crate::cost::Kind;
 use crate::dec::DecPanel;
-use crate::panel::Panel;
 use crate::place::{Cursor, Place};
 use crate::questions::{SIZE, blank_glass};
 use crate::searcher::{Scene, Searcher};
+use crate::sending::sent;
 
 #[derive(Debug)]
 pub struct Worked {
@@ -60,27 +60,10 @@ impl Worked {
             glass: &glass,
             pen: 0,
         };
+        let panel = DecPanel { size: SIZE };
         let found = searcher.leg(scene, self.start, self.goal);
-        found.is_some_and(|found| sent(scene, self.start, &found.motions).as_deref() == Some(self.bytes))
+        found.is_some_and(|found| {
+            sent(&panel, scene, self.start, &found.motions).as_deref() == Some(self.bytes)
+        })
     }
-}
-
-/// The bytes of a sequence from a cursor, if each motion is offered where the one before it landed. The retype sends
-/// the code of the cell on the glass.
-pub fn sent(scene: Scene, start: Cursor, motions: &[u16]) -> Option<Vec<u8>> {
-    let panel = DecPanel { size: SIZE };
-    let mut bytes = Vec::new();
-    let mut here = start;
-    for &motion in motions {
-        let to = if motion == panel.motions() {
-            let place = here.place;
-            bytes.push(scene.glass[SIZE.number(place)].code);
-            SIZE.right_of(place, 1)
-        } else {
-            bytes.extend(panel.bytes(motion));
-            panel.landing(motion, here)
-        };
-        here = to?.resting();
-    }
-    Some(bytes)
 }

@@ -86,6 +86,18 @@ impl Panel for Leftward {
     fn milliseconds(&self, _: u16) -> u16 {
         0
     }
+
+    fn after_print(&self, place: Place) -> Cursor {
+        place.resting()
+    }
+
+    fn pen_bytes(&self, _: u8) -> Vec<u8> {
+        Vec::new()
+    }
+
+    fn wipe_bytes(&self) -> Vec<u8> {
+        Vec::new()
+    }
 }
 
 /// To the right there is only the retype, and only where the cell has the pen now set.

@@ -7,11 +7,10 @@ use Rattle.legs.specs.Sane.{Sane}
 use Rattle.legs.specs.Sequence.{Sequence, none, then}
 use Rattle.legs.proofs.Ends.{above_zero}
 use Rattle.legs.proofs.Order.{same_at_most}
-use Rattle.labels.specs.Frontier.{Cheaper, Frontier, Handled, Traced, beyond}
+use Rattle.labels.specs.Frontier.{Cheaper, DueAt, Frontier, Handled, Traced, beyond}
 use Rattle.labels.specs.Note.{Note}
 use Rattle.labels.specs.declared.label.Stage.TheVariants.{Unreached, Reached, Settled}
 use Rattle.labels.proofs.Improving.{same_or_not}
-use Rattle.labels.proofs.Turns.{DueAt}
 
 module _ {A V : Type 0} (g : Graph A V) (k : A) (ok : A → Type 0) (m : ℕ) (s : Sane g k ok m) (N : ℕ → Note V) where
   -- the empty sequence is the leg to where it begins

@@ -7,7 +7,7 @@ use Rattle.legs.specs.Sane.{Sane}
 use Rattle.legs.specs.Sequence.{Sequence, none, then}
 use Rattle.legs.proofs.Ends.{Before, adds_more, before, ends_ok, more, one_end}
 use Rattle.legs.proofs.Unique.{least_of_leg}
-use Rattle.labels.specs.Frontier.{Cheaper, Frontier, Handled, Labelled, Traced, beyond, done, known}
+use Rattle.labels.specs.Frontier.{Cheaper, Frontier, Handled, Labelled, NoneDue, Traced, beyond, done, known}
 use Rattle.labels.specs.Note.{Note}
 use Rattle.labels.specs.declared.label.Stage.{Stage}
 use Rattle.labels.specs.declared.label.Stage.TheVariants.{Unreached, Reached, Settled}
@@ -17,10 +17,6 @@ pub is_settled : (s : Stage) → (s ≡ Settled) ⊎ (s ≡ Settled → ⊥)
 is_settled Unreached = inr (λ e. cc)
 is_settled Reached = inr (λ e. cc)
 is_settled Settled = inl refl
-
--- nothing is due
-abbrev pub NoneDue : ℕ → ℕ → Type 0
-NoneDue d n = ⊥
 
 module _ {A V : Type 0} (g : Graph A V) (k : A) (ok : A → Type 0) (m : ℕ) (s : Sane g k ok m)
     (N : ℕ → Note V) (t : ℕ) (f : Frontier g k ok N t NoneDue) where

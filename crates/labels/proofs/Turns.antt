@@ -4,16 +4,12 @@ use Rattle.legs.specs.Graph.{Graph, Leads}
 use Rattle.legs.specs.Sane.{Sane}
 use Rattle.legs.specs.Sequence.{Sequence}
 use Rattle.legs.proofs.Unique.{least_of_leg}
-use Rattle.labels.specs.Frontier.{Cheaper, Frontier, Handled, Known, Labelled, Traced, beyond, done, known}
+use Rattle.labels.specs.Frontier.{DueAt, Cheaper, Frontier, Handled, Known, Labelled, NoneDue, Traced, beyond, done, known}
 use Rattle.labels.specs.Note.{Note, Updated, settled}
 use Rattle.labels.specs.declared.label.Stage.TheVariants.{Reached, Settled}
 use Rattle.labels.proofs.Improving.{same_or_not}
 use Rattle.labels.proofs.Kept.{Fixed, still_labelled, still_settled, still_traced}
-use Rattle.labels.proofs.Settling.{NoneDue, way, way_leg, way_spent}
-
--- all motions of the state i are due
-abbrev pub DueAt : ℕ → ℕ → ℕ → Type 0
-DueAt i d n = d ≡ i
+use Rattle.labels.proofs.Settling.{way, way_leg, way_spent}
 
 module _ {A V : Type 0} (g : Graph A V) (k : A) (ok : A → Type 0) (m : ℕ) (s : Sane g k ok m)
     (N N' : ℕ → Note V) (t : ℕ) (f : Frontier g k ok N t NoneDue)

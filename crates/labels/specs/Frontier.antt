@@ -8,6 +8,7 @@
 --     Traced N u          the settled state u has its leg, and its note tells the leg's cost, its last motion and the
 --                         settled state before it
 --     Labelled N u        the note of the reached state u is of a motion from a settled state
+--     DueAt i, NoneDue    all motions of the state with the number i are due, and none
 --     Frontier N t D      the beginning is settled; what is settled is traced; each motion of a settled state is dealt
 --                         with, but for those that are still due, where D d n says that n is due at d; what is reached
 --                         is labelled
@@ -33,6 +34,12 @@ module _ {A V : Type 0} (g : Graph A V) where
     done : (N j).stage ≡ Settled → Handled N t j v n r
     known : Known (N j) v n r → Handled N t j v n r
     beyond : Cheaper g.costs (N t) v → Handled N t j v n r
+
+abbrev pub DueAt : ℕ → ℕ → ℕ → Type 0
+DueAt i d n = d ≡ i
+
+abbrev pub NoneDue : ℕ → ℕ → Type 0
+NoneDue d n = ⊥
 
 module _ {A V : Type 0} (g : Graph A V) (k : A) (ok : A → Type 0) where
   pub record Back (N : ℕ → Note V) (u : A) (w : Sequence) (n : ℕ) : Type 0 where

@@ -1,4 +1,4 @@
-// What a search refuses: too little memory or too few cells, and places that are not on the panel.
+// What a search refuses: too little memory, and places that are not on the panel.
 use crate::ask::{Answer, ask};
 use cost::byte::ByteCost;
 use dec_panel::model::Dec;
@@ -10,7 +10,6 @@ use std::test::Fail;
 // Asks for a leg by the byte cost on the deferred-wrap panel, and is refused.
 fn is_refused(
     rt: &(impl Abort + AllocGlobal),
-    cells: usize,
     labels: usize,
     start: Place,
     goal: Place,
@@ -18,7 +17,7 @@ fn is_refused(
 ) -> Result<(), Fail> {
     match ask::<Dec, ByteCost>(
         rt.alloc(),
-        cells,
+        1920,
         labels,
         (b' ', 0),
         Cursor::from(start),
@@ -33,8 +32,7 @@ fn is_refused(
 #[test]
 fn a_search_wants_a_label_for_each_place_and_one_more(rt: HostRuntime) -> Result<(), Fail> {
     let first = Place { row: 0, column: 0 };
-    is_refused(&rt, 1920, 1920, first, first, Refusal::TooShort)?;
-    is_refused(&rt, 1919, 1921, first, first, Refusal::TooShort)
+    is_refused(&rt, 1920, first, first, Refusal::TooShort)
 }
 
 #[test]
@@ -42,22 +40,8 @@ fn a_search_wants_places_on_the_panel(rt: HostRuntime) -> Result<(), Fail> {
     let first = Place { row: 0, column: 0 };
     let below = Place { row: 24, column: 0 };
     let beside = Place { row: 0, column: 80 };
-    is_refused(
-        &rt,
-        1920,
-        1921,
-        below,
-        beside,
-        Refusal::Outside { place: below },
-    )?;
-    is_refused(
-        &rt,
-        1920,
-        1921,
-        first,
-        beside,
-        Refusal::Outside { place: beside },
-    )?;
+    is_refused(&rt, 1921, below, beside, Refusal::Outside { place: below })?;
+    is_refused(&rt, 1921, first, beside, Refusal::Outside { place: beside })?;
     // too little memory comes before a place that is not on the panel
-    is_refused(&rt, 1920, 0, below, beside, Refusal::TooShort)
+    is_refused(&rt, 0, below, beside, Refusal::TooShort)
 }

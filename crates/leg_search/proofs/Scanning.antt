@@ -6,7 +6,7 @@ use Rattle.cost.specs.Costs.{CostLaws, Costs}
 use Rattle.display.specs.Place.{On, number}
 use Rattle.display.specs.Surface.{resting}
 use Rattle.display.specs.declared.place.Cursor.{Cursor}
-use Rattle.labels.specs.Frontier.{Cheaper, Frontier}
+use Rattle.labels.specs.Frontier.{Cheaper, DueAt, Frontier, NoneDue}
 use Rattle.labels.specs.Note.{Note, Updated, improved}
 use Rattle.labels.specs.declared.label.Stage.TheVariants.{Settled}
 use Rattle.labels.proofs.Beginning.{left_out}
@@ -18,7 +18,7 @@ use Rattle.legs.specs.Sane.{Node}
 use Rattle.legs.specs.Scene.{Scene, graph, numbered, priced, steps}
 use Rattle.motion_order.specs.InOrder.{InOrder, Told, offer_at, weighed}
 use Rattle.motion_order.specs.declared.offer.Offer.{Offer}
-use Rattle.leg_search.specs.Scan.{Carries, DueAt, Later, NoneDue, Scanning, Taken, Waits, dear, nowhere, there}
+use Rattle.leg_search.specs.Scan.{Carries, Later, Scanning, Taken, Waits, dear, nowhere, there}
 use Rattle.panel.specs.Answers.{Answers, Bounded}
 
 -- what an offer costs is what its motion costs

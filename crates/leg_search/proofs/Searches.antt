@@ -6,7 +6,7 @@ use Rattle.display.specs.Surface.{resting}
 use Rattle.display.specs.declared.place.Cursor.{Cursor}
 use Rattle.display.specs.declared.place.Place.{Place}
 use Rattle.display.proofs.Places.{number_below}
-use Rattle.labels.specs.Frontier.{Frontier}
+use Rattle.labels.specs.Frontier.{DueAt, Frontier, NoneDue}
 use Rattle.labels.specs.Note.{Note}
 use Rattle.labels.specs.Trail.{Trail}
 use Rattle.labels.specs.declared.label.Stage.TheVariants.{Unreached, Reached, Settled}
@@ -19,14 +19,14 @@ use Rattle.legs.proofs.Unique.{least_of_leg, unique}
 use Rattle.legs.specs.Graph.{spent}
 use Rattle.legs.specs.Leg.{Leg}
 use Rattle.legs.specs.Sane.{Node}
-use Rattle.legs.specs.Scene.{Scene, graph, numbered}
+use Rattle.legs.specs.Scene.{NoWay, Scene, graph, numbered}
 use Rattle.legs.specs.Sequence.{Sequence, count, listed, none}
-use Rattle.leg_search.specs.Answer.{NoWay, Tells}
+use Rattle.leg_search.specs.Answer.{Tells}
 use Rattle.leg_search.specs.Numbers.{Numbers}
 use Rattle.leg_search.specs.declared.leg.Leg.{Leg as Told}
 use Rattle.labels.specs.declared.label.Label.{Label}
 use Rattle.leg_search.specs.Memory.{Prepared, Traces, Trailed, held}
-use Rattle.leg_search.specs.Scan.{Carries, DueAt, NoneDue, Waits}
+use Rattle.leg_search.specs.Scan.{Carries, Waits}
 use Rattle.leg_search.specs.Turn.{Cheapest, NoneReached}
 use Rattle.panel.specs.Answers.{Bounded}
 

@@ -8,7 +8,7 @@ use Rattle.display.specs.declared.place.Cursor.{Cursor}
 use Rattle.display.specs.declared.place.Place.{Place}
 use Rattle.display.specs.declared.size.Size.{Size}
 use Rattle.display.proofs.Places.{number_below, numbered_place}
-use Rattle.labels.specs.Frontier.{Frontier}
+use Rattle.labels.specs.Frontier.{DueAt, Frontier, NoneDue}
 use Rattle.labels.specs.Note.{Note, Updated, settled}
 use Rattle.labels.specs.declared.label.Stage.TheVariants.{Reached, Settled}
 use Rattle.labels.proofs.Trails.{room}
@@ -19,7 +19,7 @@ use Rattle.legs.proofs.Unique.{least_of_leg}
 use Rattle.legs.specs.Sane.{Node}
 use Rattle.legs.specs.Scene.{Scene, graph, numbered}
 use Rattle.legs.specs.Sequence.{count}
-use Rattle.leg_search.specs.Scan.{DueAt, NoneDue, Room}
+use Rattle.leg_search.specs.Scan.{Room}
 use Rattle.leg_search.specs.Turn.{Cheapest, Searching}
 use Rattle.panel.specs.Answers.{Bounded}
 

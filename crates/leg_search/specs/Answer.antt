@@ -3,7 +3,6 @@
 --                             s: the labels ls hold its motions, and its cost is told. It is the only one, no sequence
 --                             that leads there costs less, and it has at most as many motions as there are places. f
 --                             tells the value of a cost
---     NoWay c s k q           no sequence leads there
 --     Answered c f s k q ls o o tells the leg, or that no sequence leads there
 use Rattle.std.specs.Prelude.{◌≡◌, ◌*◌, ◌≤◌, true, Some, None, List, Option, length}
 use Rattle.cost.specs.Costs.{Costs}
@@ -15,7 +14,7 @@ use Rattle.leg_search.specs.Memory.{held}
 use Rattle.leg_search.specs.declared.leg.Leg.{Leg as Told}
 use Rattle.legs.specs.Graph.{Leads, spent}
 use Rattle.legs.specs.Leg.{Leg}
-use Rattle.legs.specs.Scene.{Scene, graph}
+use Rattle.legs.specs.Scene.{NoWay, Scene, graph}
 use Rattle.legs.specs.Sequence.{Sequence, count, listed}
 
 pub record Tells {K V : Type 0} (c : Costs V) (f : K → V) (s : Scene) (k : Cursor) (q : Place) (ls : List (Label K))
@@ -30,9 +29,6 @@ pub record Tells {K V : Type 0} (c : Costs V) (f : K → V) (s : Scene) (k : Cur
   pub kept : l.end ≤ length ls
   pub motions : held ls l.first l.end ≡ listed way
   pub cost : f l.cost ≡ spent (graph c s) way
-
-abbrev pub NoWay : {V : Type 0} → Costs V → Scene → Cursor → Place → Type 0
-NoWay c s k q = (x : Sequence) → Leads (graph c s) k x (resting q) → ⊥
 
 abbrev pub Answered : {K V : Type 0} → Costs V → (K → V) → Scene → Cursor → Place → List (Label K) → Option (Told K)
     → Type 0

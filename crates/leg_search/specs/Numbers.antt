@@ -1,6 +1,6 @@
 -- The numbers that a search goes by.
---     Numbers z k q m b t     on a panel of size z there are m places, and the cursor k and the place q have the numbers
---                             b and t
+--     Numbers z k q m b t     on a panel of size z there are m places, and the cursor k and the place q have the
+--                             numbers b and t
 use Rattle.std.specs.Prelude.{◌≡◌, ℕ, ◌*◌, ◌<◌, ◌≤◌}
 use Rattle.cost.specs.Costs.{most_steps}
 use Rattle.display.specs.Place.{number}

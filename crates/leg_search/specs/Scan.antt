@@ -8,7 +8,6 @@
 --                              dearer than the best that is known to the goal t, and then nothing has changed; nor has
 --                              it where the motion is not offered; else note is taken of the sequence
 --     Later d os j i n         n is a motion that is due at i, which is d, and none of the first j of the offers os
---     DueAt d, NoneDue         all motions of the state d are due, and none
 --     Waits N M                no state is settled by M that is not settled by N
 --     Carries c s d N M t D E  what holds of the frontier with the notes N, where D says what is due, holds with the
 --                              notes M, where E says it, whatever the cursor from which the search set out and came
@@ -21,7 +20,7 @@ use Rattle.cost.specs.Costs.{Costs, most_steps}
 use Rattle.display.specs.Place.{On, number}
 use Rattle.display.specs.declared.place.Cursor.{Cursor}
 use Rattle.display.specs.declared.place.Place.{Place}
-use Rattle.labels.specs.Frontier.{Cheaper, Frontier}
+use Rattle.labels.specs.Frontier.{Cheaper, DueAt, Frontier}
 use Rattle.labels.specs.Note.{Note, Updated, improved}
 use Rattle.labels.specs.declared.label.Stage.TheVariants.{Settled}
 use Rattle.legs.specs.Sane.{Node}
@@ -47,12 +46,6 @@ pub data Taken {V : Type 0} (c : Costs V) (s : Scene) (N M : ℕ → Note V) (t 
 
 abbrev pub Later : ℕ → List Offer → ℕ → ℕ → ℕ → Type 0
 Later d os j i n = (i ≡ d) × ((h : ℕ) → h < j → (offer_at os h).motion ≢ n)
-
-abbrev pub DueAt : ℕ → ℕ → ℕ → Type 0
-DueAt d i n = i ≡ d
-
-abbrev pub NoneDue : ℕ → ℕ → Type 0
-NoneDue i n = ⊥
 
 pub record Waits {V : Type 0} (N M : ℕ → Note V) : Type 0 where
   pub still : (j : ℕ) → (M j).stage ≡ Settled → (N j).stage ≡ Settled

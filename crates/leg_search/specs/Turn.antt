@@ -10,10 +10,9 @@ use Rattle.std.specs.Prelude.{◌≡◌, ◌≢◌, ℕ, ◌<◌, ◌≤◌, Boo
 use Rattle.cost.specs.Costs.{Costs}
 use Rattle.display.specs.Place.{On}
 use Rattle.display.specs.declared.place.Cursor.{Cursor}
-use Rattle.labels.specs.Frontier.{Frontier}
+use Rattle.labels.specs.Frontier.{Frontier, NoneDue}
 use Rattle.labels.specs.Note.{Note}
 use Rattle.labels.specs.declared.label.Stage.TheVariants.{Reached, Settled}
-use Rattle.leg_search.specs.Scan.{NoneDue}
 use Rattle.legs.specs.Sane.{Node}
 use Rattle.legs.specs.Scene.{Scene, graph}
 

@@ -16,13 +16,11 @@ use legs::scene::Scene;
 use motion_order::charted::Charted;
 use panel::panel::Panel;
 
-// Whether there are labels and cells enough for a search on a panel of a size.
-fn is_covered<C, K>(size: Size, glass: Glass<C>, labels: &[Label<K>]) -> bool
-    ensures { Decides result (Covered size (length labels.now) (length glass.entry.below.now)
-        (length glass.entry.from.now)) }
+// Whether there are labels enough for a search on a panel of a size.
+fn is_covered<K>(size: Size, labels: &[Label<K>]) -> bool
+    ensures { Decides result (Covered size (length labels.now)) }
 {
-    let places = size.places();
-    places < labels.len() && places <= glass.below.len() && places <= glass.from.len()
+    size.places() < labels.len()
 }
 
 // Whether a place is on a panel of a size.
@@ -46,8 +44,8 @@ fn astray(size: Size, start: Cursor, goal: Place) -> Option<Place>
 }
 
 // The leg from a cursor to a place on the panel, or nothing where no sequence of motions leads there, while the glass
-// is as told and a pen is set. The search needs a label for each place and one more; some of them hold the leg's
-// motions when it is done.
+// is as told and a pen is set; where a picture of it ends before a place, a blank is there. The search needs a label
+// for each place and one more; some of them hold the leg's motions when it is done.
 pub fn find<P: Panel, C: Cell, K: Cost>(
     charted: &Charted<P, K>,
     glass: Glass<C>,
@@ -58,11 +56,11 @@ pub fn find<P: Panel, C: Cell, K: Cost>(
 ) -> Result<Option<Leg<K>>, Refusal>
     ensures { Finds K.costs K.value
         (scene_of (P.answers charted.now) C.glyph glass.entry.below.now glass.entry.from.now glass.entry.split pen)
-        start goal (length glass.entry.below.now) (length glass.entry.from.now) labels.old labels.new result }
+        start goal labels.old labels.new result }
 {
     let panel = charted.panel();
     let size = panel.size();
-    if !is_covered(size, glass, labels) {
+    if !is_covered(size, labels) {
         return Err(Refusal::TooShort);
     }
     if let Some(place) = astray(size, start, goal) {

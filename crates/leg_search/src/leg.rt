@@ -27,7 +27,7 @@ impl<K> Leg<K> {
 // Why a search is refused. Then nothing has changed.
 #[derive(Clone, Copy, Debug, PartialEq, Eq)]
 pub enum Refusal {
-    // there are fewer labels than places and one, or a picture of the glass has fewer cells than there are places
+    // there are fewer labels than places and one
     TooShort,
     // the start or else the goal is not on the panel
     Outside { place: Place },

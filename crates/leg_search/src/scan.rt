@@ -2,11 +2,11 @@
 ghost use Rattle.std.specs.Prelude.{◌≡◌, ◌*◌, ◌+◌, ◌<◌, length, true};
 ghost use Rattle.cost.specs.Costs.{Addable, Motion};
 ghost use Rattle.display.specs.Place.{On, number};
-ghost use Rattle.labels.specs.Frontier.{Cheaper};
+ghost use Rattle.labels.specs.Frontier.{Cheaper, DueAt, NoneDue};
 ghost use Rattle.labels.specs.Label.{noted, unsettled};
 ghost use Rattle.labels.specs.Note.{Updated, improved};
 ghost use Rattle.leg_search.specs.Rows.{Kept};
-ghost use Rattle.leg_search.specs.Scan.{Carries, DueAt, NoneDue, Room, Taken, Waits};
+ghost use Rattle.leg_search.specs.Scan.{Carries, Room, Taken, Waits};
 ghost use Rattle.legs.specs.Scene.{numbered};
 ghost use Rattle.legs.specs.Seen.{scened};
 ghost use Rattle.motion_order.specs.InOrder.{InOrder, weighed};

@@ -41,7 +41,7 @@ fn next<P: Panel, C: Cell>(
 }
 
 // How many bytes a leg has, if they are not more than there is room for.
-fn length_within<P: Panel, C: Cell, K: Cost>(
+pub fn length_within<P: Panel, C: Cell, K: Cost>(
     scene: &Scene<P, C>,
     start: Cursor,
     leg: &[Label<K>],

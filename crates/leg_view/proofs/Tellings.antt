@@ -11,26 +11,23 @@ use Rattle.display.specs.declared.place.Place.{Place}
 use Rattle.display.specs.declared.size.Size.{Size}
 use Rattle.labels.specs.Label.{step_of}
 use Rattle.labels.specs.declared.label.Label.{Label}
-use Rattle.leg_search.specs.Answer.{Answered, NoWay, Tells}
+use Rattle.leg_search.specs.Answer.{Answered, Tells}
 use Rattle.leg_search.specs.Find.{Astray, Covered, Finds}
 use Rattle.leg_search.specs.Memory.{held_labels}
 use Rattle.leg_search.specs.declared.leg.Leg.{Leg as Told}
 use Rattle.leg_search.specs.declared.leg.Refusal.{Refusal}
 use Rattle.leg_search.specs.declared.leg.Refusal.TheVariants.{TooShort, Outside}
 use Rattle.leg_view.specs.Report.{ToldLeg, leg_lines, scene_now}
-use Rattle.leg_view.proofs.Sends.{sent_few}
-use Rattle.leg_view.proofs.Sequences.{sequence_listed}
+use Rattle.legs.proofs.Sends.{sent_few}
+use Rattle.legs.proofs.Unique.{leg_leads}
+use Rattle.legs.proofs.Sequences.{sequence_listed}
 use Rattle.legs.specs.Graph.{Graph, Leads}
 use Rattle.legs.specs.Leg.{Leg}
-use Rattle.legs.specs.Scene.{Scene, graph, scene_of, sent}
+use Rattle.legs.specs.Scene.{NoWay, Scene, graph, scene_of, sent}
 use Rattle.legs.specs.Seen.{scened}
 use Rattle.legs.specs.Sequence.{Sequence, listed, none, sequence, then}
 use Rattle.legs.specs.declared.scene.Scene.{Scene as Seen}
 use Rattle.panel.specs.Answers.{Answers, Bounded}
-
-leg_leads : {A V : Type 0} (g : Graph A V) (k u : A) (w : Sequence) → Leg g k w u → Leads g k w u
-leg_leads g k u none h = h.leads
-leg_leads g k u (then w n) h = h.1.least.leads
 
 -- what stands before the rest of an output
 pub laid : (bs xs ys : List ℕ) (n : ℕ) → n ≡ length bs → ys ≡ bs ++ drop n xs → take n ys ≡ bs
@@ -48,7 +45,7 @@ module _ {K V : Type 0} (c : Costs V) (f : K → V) (s : Scene) (k : Cursor) (q 
   pub has_room : Bounded s.answers → (n : ℕ) → n ≡ 16 * (s.answers.size.rows * s.answers.size.columns)
       → n < length (sent s k (sequence (map step_of steps))) → ⊥
   has_room b n is less =
-      let few = sent_few c s b k t.way (resting q) (leg_leads (graph c s) k (resting q) t.way t.leg) in
+      let few = sent_few c s b k t.way (resting q) (leg_leads (graph c s) k t.way (resting q) t.leg) in
       let short = t.short in
       let same = ap length bytes in omega arith
 
@@ -73,10 +70,10 @@ module _ {K V : Type 0} (c : Costs V) (f : K → V) (s : Scene) (k : Cursor) (q 
       (subst (λ (x : Option (Told K)). Answered c f s k q ls x) e a))
 
   -- memory enough, and two places of the panel, are not refused
-  pub not_refused : (m n : ℕ) (ls ms : List (Label K)) (why : Refusal) → Covered s.answers.size (length ls) m n
-      → On s.answers.size k.place → On s.answers.size q → Finds c f s k q m n ls ms (Err why) → ⊥
-  not_refused m n ls ms TooShort covered start goal h = h.because covered
-  not_refused m n ls ms (Outside p) covered start goal h = by_cases h.because.1
+  pub not_refused : (ls ms : List (Label K)) (why : Refusal) → Covered s.answers.size (length ls)
+      → On s.answers.size k.place → On s.answers.size q → Finds c f s k q ls ms (Err why) → ⊥
+  not_refused ls ms TooShort covered start goal h = h.because covered
+  not_refused ls ms (Outside p) covered start goal h = by_cases h.because.1
     where
       by_cases : Astray s.answers.size k q p → ⊥
       by_cases (inl a) = a.0 start
@@ -90,16 +87,10 @@ scene_same a m h x p r e i j =
     ap (λ z. scene_of (a z) h x.glass.below.now x.glass.from.now x.glass.split x.pen) (sym (e ∙ i))
     ∙ (j ∙ ap (λ z. scene_now (a z) (m z)) i)
 
--- what a panel shows is memory enough for a search on it, and its cursor stands on it
-module _ (P : ℕ) (m : Surface) (w : Within P m) (z : Size) (e : m.size ≡ z) where
-  pub covers : {C : Type 0} (h : C → Glyph) (xs below from : List C) (labels : ℕ) → map h xs ≡ m.picture → below ≡ xs
-      → from ≡ xs → labels ≡ z.rows * z.columns + 1 → Covered z labels (length below) (length from)
-  covers h xs below from labels i j k n =
-      let cells : length xs ≡ z.rows * z.columns =
-      sym (length-map xs h) ∙ (ap length i ∙ (w.filled ∙ ap (λ (y : Size). y.rows * y.columns) e)) in
-      let first = ap length j in
-      let second = ap length k in
-      record { memory = omega arith; below_split = omega arith; from_split = omega arith }
+-- a label for each place and one more is memory enough for a search on a panel, and its cursor stands on it
+pub covers : (z : Size) (labels : ℕ) → labels ≡ z.rows * z.columns + 1 → Covered z labels
+covers z labels n = record { memory = omega arith }
 
+module _ (P : ℕ) (m : Surface) (w : Within P m) (z : Size) (e : m.size ≡ z) where
   pub stands : (k : Cursor) → k ≡ m.cursor → On z k.place
   stands k i = subst (λ (y : Size). On y k.place) e (subst (λ (x : Cursor). On m.size x.place) (sym i) w.place)

@@ -23,11 +23,10 @@ use Rattle.display.specs.Surface.{Surface, place_of, resting}
 use Rattle.display.specs.declared.place.Cursor.{Cursor}
 use Rattle.display.specs.declared.place.Place.{Place}
 use Rattle.display.specs.declared.size.Size.{Size}
-use Rattle.leg_search.specs.Answer.{NoWay}
 use Rattle.leg_view.specs.declared.goal.Outside.{Outside}
 use Rattle.legs.specs.Graph.{spent}
 use Rattle.legs.specs.Leg.{Leg}
-use Rattle.legs.specs.Scene.{Scene, graph, sent}
+use Rattle.legs.specs.Scene.{NoWay, Scene, graph, sent}
 use Rattle.legs.specs.Sequence.{Sequence, listed}
 use Rattle.panel.specs.Answers.{Answers}
 use Rattle.view.specs.Report.{hex_digit, line}

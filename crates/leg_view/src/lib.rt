@@ -4,6 +4,6 @@
 mod cells;
 pub mod costs;
 pub mod goal;
-mod lines;
+pub mod lines;
 pub mod report;
 pub mod requests;

@@ -42,7 +42,7 @@ fn append_motions<K: Cost>(
 }
 
 // Some bytes, each as two digits.
-fn append_bytes(out: &mut Vec<u8>, bytes: &[u8]) -> Result<(), AllocError>
+pub fn append_bytes(out: &mut Vec<u8>, bytes: &[u8]) -> Result<(), AllocError>
     ensures { OnOk result (out.new.items ≡ out.old.items ++ bytes_line bytes.now) }
 {
     out.extend_from_slice(b"bytes")?;

@@ -90,8 +90,8 @@ fn leg_text<P: Readout, K: Worded>(
     }
 }
 
-// What is told of the leg from where the cursor of a panel stands to a row and a column, as above, or why it is refused:
-// there is no such place on the panel.
+// What is told of the leg from where the cursor of a panel stands to a row and a column, as above, or why it is
+// refused: there is no such place on the panel.
 pub fn leg_to<P: Readout, K: Worded>(
     heap: Global,
     charted: &Charted<P, K>,

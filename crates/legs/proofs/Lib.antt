@@ -4,3 +4,5 @@ pub mod Unique
 pub mod Few
 pub mod Panels
 pub mod Short
+pub mod Sends
+pub mod Sequences

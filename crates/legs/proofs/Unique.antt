@@ -1,6 +1,6 @@
 -- There is one leg only: of two, the last motions come before one another, so they are one, and depart from one state.
 use Rattle.std.proofs.Common.{◌≡◌, ℕ, refl, subst, arith}
-use Rattle.legs.specs.Graph.{Graph}
+use Rattle.legs.specs.Graph.{Graph, Leads}
 use Rattle.legs.specs.Leg.{Earlier, Least, Leg}
 use Rattle.legs.specs.Sane.{Sane}
 use Rattle.legs.specs.Sequence.{Sequence, none, then}
@@ -11,6 +11,10 @@ same_motion n r m q h k = grind arith
 
 same_number : (n r m q : ℕ) → Earlier n r m q → Earlier m q n r → r ≡ q
 same_number n r m q h k = grind arith
+
+pub leg_leads : {A V : Type 0} (g : Graph A V) (k : A) (w : Sequence) (u : A) → Leg g k w u → Leads g k w u
+leg_leads g k none u h = h.leads
+leg_leads g k (then w n) u h = h.1.least.leads
 
 module _ {A V : Type 0} (g : Graph A V) (k : A) (ok : A → Type 0) (m : ℕ) (s : Sane g k ok m) where
   not_both : (w : Sequence) (n : ℕ) (u : A) → Least g k none u → Least g k (then w n) u → ⊥

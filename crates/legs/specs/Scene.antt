@@ -8,6 +8,7 @@
 --     numbered z k   the number of a cursor in the order rule: its place's, and for a held one the number of places
 --     steps s n k    the same as a cursor: every motion lands unheld
 --     graph c s      the cursors, and the motions between them
+--     NoWay c s k q  no sequence leads from the cursor k to the place q
 --     motion_sent s k n, sent s k w
 --                    the bytes of the motion n and of the sequence w from the cursor k. The retype sends the code of
 --                    the cell on the glass
@@ -24,7 +25,7 @@ use Rattle.display.specs.declared.place.Cursor.{Cursor}
 use Rattle.display.specs.declared.place.Place.{Place}
 use Rattle.display.specs.declared.size.Size.{Size}
 use Rattle.legs.specs.Glass.{glass_glyph}
-use Rattle.legs.specs.Graph.{Graph, ends}
+use Rattle.legs.specs.Graph.{Graph, Leads, ends}
 use Rattle.legs.specs.Sequence.{Sequence, none, then}
 use Rattle.panel.specs.Answers.{Answers}
 
@@ -61,6 +62,9 @@ graph c s = record {
   number = numbered s.answers.size;
   costs = c;
 }
+
+abbrev pub NoWay : {V : Type 0} → Costs V → Scene → Cursor → Place → Type 0
+NoWay c s k q = (x : Sequence) → Leads (graph c s) k x (resting q) → ⊥
 
 abbrev pub motion_sent : Scene → Cursor → ℕ → List ℕ
 motion_sent s k n = cond (n == s.answers.motions) ((s.glass k.place).code ∷ []) (s.answers.motion_bytes n)

@@ -21,12 +21,12 @@ use Rattle.dec_rules.specs.declared.motion.Motion.TheVariants.{Return as Returns
 use Rattle.dec_rules.specs.declared.motion.Motion.TheVariants.{Up as Ups, Down as Downs, Right as Rights, Left as Lefts}
 use Rattle.dec_rules.specs.declared.motion.Motion.TheVariants.{Address as Addresses}
 use Rattle.dec_rules.proofs.Digits.{one_digit, two_digits}
-use Rattle.worked_legs.specs.Scenes.{scene_of, screen}
+use Rattle.worked_legs.specs.Scenes.{blank_scene, screen}
 use Rattle.worked_legs.specs.declared.row.PanelKind.TheVariants.{Deferred}
 use Rattle.worked_legs.proofs.Moves.{Back, Feed, Retype, Return, bytes, milliseconds}
 
 abbrev pub s : Scene
-s = scene_of Deferred
+s = blank_scene Deferred
 
 pub record Counted (n b : ℕ) : Type 0 where
   pub some : 3 ≤ b

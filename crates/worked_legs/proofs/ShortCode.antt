@@ -13,14 +13,14 @@ use Rattle.display.specs.declared.place.Cursor.{Cursor}
 use Rattle.display.specs.declared.place.Place.{Place}
 use Rattle.legs.specs.Scene.{Scene, lands}
 use Rattle.worked_legs.specs.Established.{Sends}
-use Rattle.worked_legs.specs.Scenes.{scene_of}
+use Rattle.worked_legs.specs.Scenes.{blank_scene}
 use Rattle.worked_legs.specs.Table.{from}
 use Rattle.worked_legs.specs.declared.row.PanelKind.TheVariants.{ShortCode}
 use Rattle.worked_legs.proofs.Landings.{Bounds, First, onward, sends, start}
 use Rattle.worked_legs.proofs.Moves.{Back, Feed, Retype, Return, bytes, line_raises, milliseconds, untimed}
 
 abbrev s : Scene
-s = scene_of ShortCode
+s = blank_scene ShortCode
 
 record Up (n : ℕ) (d p : Place) (t b : ℕ) : Type 0 where
   pub number : n ≡ 3

@@ -8,19 +8,19 @@ use Rattle.cost.specs.Bytes.{byte_costs, byte_laws}
 use Rattle.display.specs.Surface.{place_of}
 use Rattle.display.specs.declared.place.Cursor.{Cursor}
 use Rattle.display.specs.declared.place.Place.{Place}
-use Rattle.legs.specs.Scene.{Scene, lands, graph}
+use Rattle.legs.specs.Scene.{NoWay, Scene, graph, lands}
 use Rattle.legs.specs.Graph.{Leads}
 use Rattle.legs.specs.Sequence.{Sequence, none, then}
 use Rattle.legs.proofs.Ends.{before}
-use Rattle.worked_legs.specs.Established.{Sends, NoWay}
-use Rattle.worked_legs.specs.Scenes.{scene_of}
+use Rattle.worked_legs.specs.Established.{Sends}
+use Rattle.worked_legs.specs.Scenes.{blank_scene}
 use Rattle.worked_legs.specs.Table.{from}
 use Rattle.worked_legs.specs.declared.row.PanelKind.TheVariants.{Sticking}
 use Rattle.worked_legs.proofs.Landings.{Bounds, First, landed, onward, sends, start}
 use Rattle.worked_legs.proofs.Moves.{Back, Feed, Retype, Return, bytes, milliseconds}
 
 abbrev s : Scene
-s = scene_of Sticking
+s = blank_scene Sticking
 
 abbrev Moves : ℕ → Place → Place → ℕ → ℕ → Type 0
 Moves n d p t b = Return n d p t b ⊎ (Back n d p t b ⊎ (Feed n d p t b ⊎ Retype 3 n d p t b))
@@ -63,5 +63,5 @@ below_first (then w n) u l =
     let on : 1 ≤ at.place.row = grind arith in
     subst (λ (u : Cursor). 1 ≤ u.place.row) at.is on
 
-pub no_way_up : NoWay byte_costs s (from 1 0) (from 0 0)
+pub no_way_up : NoWay byte_costs s (from 1 0) (place_of 0 0)
 no_way_up w l = let low = below_first w (from 0 0) l in absurd (omega arith)

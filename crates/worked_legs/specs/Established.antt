@@ -1,7 +1,6 @@
 -- When a row of the table is true.
 --     Sends c s k u bs      bs are the bytes of the leg by the costs c, from the cursor k to u, in the scene s
---     NoWay c s k u         no sequence of motions leads from k to u
---     SendsIf c s k u o     the one where o is some bytes, and the other where it is none
+--     SendsIf c s k q o     o is the bytes of the leg to the place q, or none and no sequence leads there
 --     Found c l, FoundBy c l
 --                           what the row l says, by the costs c, or by the costs of the kind c
 --     Established l         the same, by the row's own costs
@@ -13,11 +12,11 @@ use Rattle.cost.specs.Costs.{Costs}
 use Rattle.cost.specs.Line.{line_costs}
 use Rattle.display.specs.Surface.{resting}
 use Rattle.display.specs.declared.place.Cursor.{Cursor}
-use Rattle.legs.specs.Graph.{Leads}
+use Rattle.display.specs.declared.place.Place.{Place}
 use Rattle.legs.specs.Leg.{Leg}
-use Rattle.legs.specs.Scene.{Scene, graph, sent}
+use Rattle.legs.specs.Scene.{NoWay, Scene, graph, sent}
 use Rattle.legs.specs.Sequence.{Sequence}
-use Rattle.worked_legs.specs.Scenes.{scene_of}
+use Rattle.worked_legs.specs.Scenes.{blank_scene}
 use Rattle.worked_legs.specs.Table.{table}
 use Rattle.worked_legs.specs.declared.row.CostKind.{CostKind}
 use Rattle.worked_legs.specs.declared.row.CostKind.TheVariants.{Bytes, Line}
@@ -28,15 +27,12 @@ pub record Sends {V : Type 0} (c : Costs V) (s : Scene) (k u : Cursor) (bs : Lis
   pub leg : Leg (graph c s) k sequence u
   pub bytes : sent s k sequence ≡ bs
 
-abbrev pub NoWay : {V : Type 0} → Costs V → Scene → Cursor → Cursor → Type 0
-NoWay c s k u = (w : Sequence) → Leads (graph c s) k w u → ⊥
-
-abbrev pub SendsIf : {V : Type 0} → Costs V → Scene → Cursor → Cursor → Option (List ℕ) → Type 0
-SendsIf c s k u None = NoWay c s k u
-SendsIf c s k u (Some bs) = Sends c s k u bs
+abbrev pub SendsIf : {V : Type 0} → Costs V → Scene → Cursor → Place → Option (List ℕ) → Type 0
+SendsIf c s k q None = NoWay c s k q
+SendsIf c s k q (Some bs) = Sends c s k (resting q) bs
 
 abbrev pub Found : {V : Type 0} → Costs V → WorkedLeg → Type 0
-Found c l = SendsIf c (scene_of l.panel) l.start (resting l.goal) l.bytes
+Found c l = SendsIf c (blank_scene l.panel) l.start l.goal l.bytes
 
 abbrev pub FoundBy : CostKind → WorkedLeg → Type 0
 FoundBy Bytes l = Found byte_costs l

@@ -1,7 +1,7 @@
 -- The scene of a worked leg.
 --     screen       24 rows and 80 columns
 --     answers_of p what the panel p answers at that size
---     scene_of p   the panel p with a blank at every place and pen 0 set
+--     blank_scene p the panel p with a blank at every place and pen 0 set
 use Rattle.std.proofs.Common.{arith}
 use Rattle.display.specs.Cell.{blank}
 use Rattle.display.specs.declared.size.Size.{Size}
@@ -28,5 +28,5 @@ answers_of Deferred = deferred_answers screen
 answers_of ShortCode = short_code_answers screen
 answers_of Sticking = sticking_answers screen
 
-abbrev pub scene_of : PanelKind → Scene
-scene_of p = record { answers = answers_of p; glass = λ q. blank; pen = 0 }
+abbrev pub blank_scene : PanelKind → Scene
+blank_scene p = record { answers = answers_of p; glass = λ q. blank; pen = 0 }

@@ -7,8 +7,7 @@ use Rattle.labels.specs.Label.{noted}
 use Rattle.labels.specs.Note.{Updated, settled}
 use Rattle.leg_search.proofs.Keeping.{renewed_kept}
 use Rattle.leg_search.proofs.Turning.{goal_waits, room_left, turned_at}
-use Rattle.leg_search.specs.Scan.{DueAt}
-use Rattle.labels.specs.Frontier.{Frontier}
+use Rattle.labels.specs.Frontier.{DueAt, Frontier}
 use Rattle.legs.specs.Sane.{Node}
 use Rattle.legs.specs.Scene.{graph}
 use Rattle.legs.specs.Seen.{scened}

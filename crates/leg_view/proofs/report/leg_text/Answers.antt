@@ -27,9 +27,6 @@ unreachable-requires g c =
     (c.size.ensures ∙ ap (λ p. (g.P.Panel.answers p).size) c.panel-panel.ensures) in
     let labels = c.in_ok-labels.ensures.len in
     let lent = c.deref_mut.ensures.len in
-    let cells = c.scene_over-scene.ensures.cells in
-    let covered = covers _ surface sound.within z sized _ c.in_ok-cells.cells.items _ _ (length c.deref_mut.result.now)
-    c.in_ok-cells.ensures (cells.0 ∙ c.deref.ensures.value) (cells.1 ∙ c.deref.ensures.value)
-    (omega (arith, places, labels, lent)) in
-    not_refused g.K.Cost.costs g.K.Cost.value _ c.cursor-start.result c.args.goal _ _ _ _ _ covered
+    let covered = covers z (length c.deref_mut.result.now) (omega (arith, places, labels, lent)) in
+    not_refused g.K.Cost.costs g.K.Cost.value _ c.cursor-start.result c.args.goal _ _ _ covered
     (stands _ surface sound.within z sized c.cursor-start.result c.cursor-start.ensures) c.requires c.in-Err.ensures

@@ -1,0 +1,53 @@
+// What is asked of a whole picture before it is shown.
+ghost use Rattle.std.specs.Prelude.{◌≡◌, map, slice_index_or};
+ghost use Rattle.display.specs.Cell.{blank};
+ghost use Rattle.std.specs.Option.{option_map};
+ghost use Rattle.faults.specs.Causes.{Checks, cell_cause};
+ghost use Rattle.faults.specs.Told.{told};
+
+use crate::fault::Fault;
+use crate::judge::judge;
+use display::cell::{Cell, Glyph};
+use panel::panel::Panel;
+
+// What a picture has at the place with a number: a blank where it ends before that.
+fn glyph_at<C: Cell>(picture: &[C], number: usize) -> Glyph
+    ensures { result ≡ slice_index_or (map C.glyph picture.now) number blank }
+{
+    match picture.get(number) {
+        Some(cell) => Glyph {
+            code: cell.code(),
+            pen: cell.pen(),
+        },
+        None => Glyph::BLANK,
+    }
+}
+
+// Why the cell of a picture at the place with a number cannot be put, if it cannot.
+fn cell_fault<P: Panel, C: Cell>(panel: &P, picture: &[C], number: usize) -> Option<Fault>
+    ensures { option_map told result ≡ cell_cause (P.answers panel.now) C.admits (map C.glyph picture.now) number }
+{
+    let columns = usize::from(panel.size().columns);
+    let glyph = glyph_at(picture, number);
+    judge::<P, C>(
+        panel,
+        number / columns,
+        number % columns,
+        glyph.code,
+        glyph.pen,
+    )
+    .err()
+}
+
+// The first cell of a picture, by its place's number, that cannot be put, and why. A picture that ends before a place
+// has a blank there.
+pub fn first_fault<P: Panel, C: Cell>(panel: &P, picture: &[C]) -> Option<Fault>
+    ensures { Checks (P.answers panel.now) C.admits (map C.glyph picture.now) result }
+{
+    for number in 0..panel.size().places() {
+        if let Some(fault) = cell_fault(panel, picture, number) {
+            return Some(fault);
+        }
+    }
+    None
+}

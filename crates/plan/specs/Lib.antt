@@ -1,0 +1,4 @@
+pub mod Drawing
+pub mod Plan
+pub mod Drawn
+pub mod Sofar

@@ -1,0 +1,5 @@
+pub mod Legs
+pub mod Plans
+pub mod Pours
+pub mod Takes
+pub mod Walks

@@ -1,0 +1,5 @@
+// Runs: where two pictures differ.
+#![tactic(auto)]
+
+pub mod next;
+pub mod run;

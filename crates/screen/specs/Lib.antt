@@ -1,0 +1,4 @@
+pub mod State
+pub mod Showing
+pub mod Calls
+pub mod Accepting

@@ -1,0 +1,10 @@
+pub mod Splits
+pub mod Histories
+pub mod Laws
+pub mod Entering
+pub mod Only
+pub mod Pictures
+pub mod Columns
+pub mod Steps
+pub mod Keeping
+pub mod Opening
