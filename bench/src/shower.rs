@@ -28,15 +28,14 @@ pub trait Shower {
     }
 }
 
-/// The unproved screen on a deferred-wrap panel. Where `twice` is set, it makes the plan of each refresh twice.
+/// The unproved screen on a deferred-wrap panel.
 pub struct Unproved {
     pub kind: Kind,
-    pub twice: bool,
 }
 
 impl Shower for Unproved {
     fn name(&self) -> &'static str {
-        if self.twice { "unproved twice" } else { "unproved" }
+        "unproved"
     }
 
     fn show(&mut self, pair: &Pair, refreshes: usize) -> Vec<u8> {
@@ -44,9 +43,6 @@ impl Shower for Unproved {
         let mut output = vec![0; ROOM];
         let mut sent = screen.redraw(&pair.first.cells, pair.first.rest, &mut output);
         for picture in [&pair.second, &pair.first].into_iter().cycle().take(refreshes) {
-            if self.twice {
-                let _ = black_box(screen.plan(&picture.cells, picture.rest));
-            }
             sent = screen.refresh(&picture.cells, picture.rest, &mut output);
         }
         output.truncate(sent.expect("there is room, and a sequence to every place"));
