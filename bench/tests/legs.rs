@@ -1,8 +1,10 @@
 //! Legs whose answers are known.
 
+mod leftward;
+
+use leftward::Leftward;
 use legs_bench::cost::{ByteCost, Kind};
-use legs_bench::panel::Panel;
-use legs_bench::place::{Cursor, Place, Size};
+use legs_bench::place::{Place, Size};
 use legs_bench::questions::{SIZE, blank_glass, filled_glass};
 use legs_bench::reference::Reference;
 use legs_bench::search::{self, Search};
@@ -63,43 +65,6 @@ fn among_equals_the_last_motion_has_the_smallest_number() {
     );
 }
 
-/// A panel whose only motion is to the left.
-struct Leftward;
-
-impl Panel for Leftward {
-    fn size(&self) -> Size {
-        Size { rows: 1, columns: 3 }
-    }
-
-    fn motions(&self) -> u16 {
-        1
-    }
-
-    fn landing(&self, _: u16, from: Cursor) -> Option<Place> {
-        from.place.left_of(1)
-    }
-
-    fn bytes(&self, _: u16) -> Vec<u8> {
-        vec![0x08]
-    }
-
-    fn milliseconds(&self, _: u16) -> u16 {
-        0
-    }
-
-    fn after_print(&self, place: Place) -> Cursor {
-        place.resting()
-    }
-
-    fn pen_bytes(&self, _: u8) -> Vec<u8> {
-        Vec::new()
-    }
-
-    fn wipe_bytes(&self) -> Vec<u8> {
-        Vec::new()
-    }
-}
-
 /// To the right there is only the retype, and only where the cell has the pen now set.
 #[test]
 fn no_sequence_leads_there() {
@@ -108,7 +73,9 @@ fn no_sequence_leads_there() {
         glass: &glass,
         pen: 0,
     };
-    let mut search = Search::<_, ByteCost>::new(Leftward);
+    let mut search = Search::<_, ByteCost>::new(Leftward {
+        size: Size { rows: 1, columns: 3 },
+    });
     let first = Place::new(0, 0).resting();
     let found = search.leg(scene, first, Place::new(0, 1));
     assert_eq!(

@@ -1,9 +1,11 @@
 //! Plans whose bytes were worked out by hand.
 
+mod leftward;
+
+use leftward::Leftward;
 use legs_bench::cost::{ByteCost, Kind};
 use legs_bench::dec::DecPanel;
-use legs_bench::panel::Panel;
-use legs_bench::place::{Cursor, Place, Size};
+use legs_bench::place::{Place, Size};
 use legs_bench::plan::{Plan, Stand, plan, runs};
 use legs_bench::questions::{SIZE, blank_glass};
 use legs_bench::screen::{Refusal, Screen};
@@ -96,58 +98,17 @@ fn an_output_that_is_too_short_is_left_as_it_is() {
     assert_eq!(screen.refresh(&wanted, FIRST, &mut [0; 11]), Ok(11));
 }
 
-/// A panel whose only motion is to the left, and whose cursor stays in the last column.
-struct Leftward;
-
-impl Panel for Leftward {
-    fn size(&self) -> Size {
-        Size { rows: 2, columns: 3 }
-    }
-
-    fn motions(&self) -> u16 {
-        1
-    }
-
-    fn landing(&self, _: u16, from: Cursor) -> Option<Place> {
-        from.place.left_of(1)
-    }
-
-    fn bytes(&self, _: u16) -> Vec<u8> {
-        vec![0x08]
-    }
-
-    fn milliseconds(&self, _: u16) -> u16 {
-        0
-    }
-
-    fn after_print(&self, place: Place) -> Cursor {
-        self.size().right_of(place, 1).unwrap_or(place).resting()
-    }
-
-    fn pen_bytes(&self, _: u8) -> Vec<u8> {
-        Vec::new()
-    }
-
-    fn wipe_bytes(&self) -> Vec<u8> {
-        Vec::new()
-    }
-}
-
 /// The goals are the runs' first places and then the rest place.
 #[test]
 fn the_first_goal_that_no_sequence_leads_to() {
     let to = |wanted: &[u8; 6], rest: Place| {
         let cells = |letters: &[u8; 6]| letters.map(|code| Cell { code, pen: 0 });
-        let mut legs = Search::<_, ByteCost>::new(Leftward);
+        let panel = Leftward {
+            size: Size { rows: 2, columns: 3 },
+        };
+        let mut legs = Search::<_, ByteCost>::new(panel);
         let start = Stand { place: FIRST, pen: 0 };
-        plan(
-            &Leftward,
-            &mut legs,
-            &cells(b"abcdef"),
-            &cells(wanted),
-            start,
-            rest,
-        )
+        plan(&panel, &mut legs, &cells(b"abcdef"), &cells(wanted), start, rest)
     };
     let below = Place::new(1, 1);
     assert_eq!(to(b"aBcdef", below), Err(below));

@@ -61,7 +61,7 @@ fn keep_shift<P: Readout + Drop, C: Cell, K: Cost>(
     let mut labels = vec![in heap; Label::unreached(); PLACES + 1]?;
     let mut output = vec![in heap; 0u8; 4096]?;
     let entries = shift(heap, b"OPEN")?;
-    let mut lines = vec![in heap; Line::NONE; entries.len()]?;
+    let mut lines = vec![in heap; Line::none(); entries.len()]?;
     println!(rt; "{name}")?;
     match keep_log::<P, C, K>(
         panel,

@@ -9,7 +9,9 @@
 --     HullOf cs p        p tells of the columns cs: whether there is any, and then the least and the greatest
 --     Spans p w o        o is the span of p on a panel of width w, or nothing where no column is put, or where they are
 --                        no span of such a panel
-use Rattle.std.specs.Prelude.{◌≡◌, ℕ, ◌<◌, ◌≤◌, true, false, cond, ◌↔◌, List, length, fold, All, Contains, Some, None, Option, nat_lt, slice_index_or, slice_set}
+--     CellsIn s xs o     o are the cells of the row xs from the first column of s to its last, or nothing where the row
+--                        is not as wide as the panel
+use Rattle.std.specs.Prelude.{◌≡◌, ℕ, ◌+◌, ◌-◌, ◌<◌, ◌≤◌, true, false, cond, ◌↔◌, List, length, drop, fold, take, All, Contains, Some, None, Option, nat_lt, slice_index_or, slice_set}
 use Rattle.damage.specs.declared.damage.PutColumns.{PutColumns}
 use Rattle.damage.specs.declared.span.Span.{Span}
 
@@ -48,3 +50,7 @@ pub record HullOf (cs : List ℕ) (p : PutColumns) : Type 0 where
 abbrev pub Spans : PutColumns → ℕ → Option Span → Type 0
 Spans p w None = (p.any ≡ true) × (p.first ≤ p.last) × (p.last < w) → ⊥
 Spans p w (Some s) = (p.any ≡ true) × (s.first ≡ p.first) × (s.last ≡ p.last) × (s.width ≡ w)
+
+abbrev pub CellsIn : {C : Type 0} → Span → List C → Option (List C) → Type 0
+CellsIn s xs None = length xs ≡ s.width → ⊥
+CellsIn s xs (Some cs) = (length xs ≡ s.width) × (cs ≡ take (s.last + 1 - s.first) (drop s.first xs))

@@ -1,6 +1,6 @@
 // Cells: what a picture holds at a place.
-ghost use Rattle.std.specs.Prelude.{◌≡◌, ℕ, Bool, true, Decides};
-ghost use Rattle.display.specs.Cell.{Built, Code};
+ghost use Rattle.std.specs.Prelude.{◌≡◌, ℕ, Bool, true, Decides, map, slice_index_or};
+ghost use Rattle.display.specs.Cell.{Built, Code, blank};
 ghost use Rattle.display.specs.declared.cell.Glyph.{Glyph};
 
 pub mod attributed;
@@ -53,4 +53,24 @@ pub trait Cell: Copy {
     ghost every_code: { (code : ℕ) → Code code → admits code 0 ≡ true };
 
     ghost only_codes: { (code pen : ℕ) → admits code pen ≡ true → Code code };
+}
+
+// What is seen of a cell.
+pub fn glyph_of<C: Cell>(cell: &C) -> Glyph
+    ensures { result ≡ C.glyph cell.now }
+{
+    Glyph {
+        code: cell.code(),
+        pen: cell.pen(),
+    }
+}
+
+// What a picture, row by row, has at the place with a number: a blank where it ends before that.
+pub fn glyph_at<C: Cell>(picture: &[C], number: usize) -> Glyph
+    ensures { result ≡ slice_index_or (map C.glyph picture.now) number blank }
+{
+    match picture.get(number) {
+        Some(cell) => glyph_of(cell),
+        None => Glyph::BLANK,
+    }
 }

@@ -1,27 +1,13 @@
 // What is asked of a whole picture before it is shown.
-ghost use Rattle.std.specs.Prelude.{◌≡◌, map, slice_index_or};
-ghost use Rattle.display.specs.Cell.{blank};
+ghost use Rattle.std.specs.Prelude.{◌≡◌, map};
 ghost use Rattle.std.specs.Option.{option_map};
 ghost use Rattle.faults.specs.Causes.{Checks, cell_cause};
 ghost use Rattle.faults.specs.Told.{told};
 
 use crate::fault::Fault;
 use crate::judge::judge;
-use display::cell::{Cell, Glyph};
+use display::cell::{Cell, glyph_at};
 use panel::panel::Panel;
-
-// What a picture has at the place with a number: a blank where it ends before that.
-fn glyph_at<C: Cell>(picture: &[C], number: usize) -> Glyph
-    ensures { result ≡ slice_index_or (map C.glyph picture.now) number blank }
-{
-    match picture.get(number) {
-        Some(cell) => Glyph {
-            code: cell.code(),
-            pen: cell.pen(),
-        },
-        None => Glyph::BLANK,
-    }
-}
 
 // Why the cell of a picture at the place with a number cannot be put, if it cannot.
 fn cell_fault<P: Panel, C: Cell>(panel: &P, picture: &[C], number: usize) -> Option<Fault>

@@ -1,4 +1,5 @@
-// The search for legs, over memory that is lent.
+// The search for legs, over memory that is lent. What it answers is the leg, of which there is only one, or that no
+// sequence of motions leads to the goal.
 #![tactic(auto)]
 
 pub mod find;

@@ -2,7 +2,7 @@
 ghost use Rattle.std.specs.Prelude.{◌≡◌};
 ghost use Rattle.legs.specs.Glass.{glass_glyph};
 
-use display::cell::{Cell, Glyph};
+use display::cell::{Cell, Glyph, glyph_at};
 
 // Two pictures, row by row: the cells of the places with a number below `split` are those of the first, the others
 // those of the second. So it is while a picture is redrawn in the order of its places.
@@ -23,12 +23,6 @@ impl<'a, C: Cell> Glass<'a, C> {
         } else {
             self.from
         };
-        match picture.get(number) {
-            Some(cell) => Glyph {
-                code: cell.code(),
-                pen: cell.pen(),
-            },
-            None => Glyph::BLANK,
-        }
+        glyph_at(picture, number)
     }
 }

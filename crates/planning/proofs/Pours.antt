@@ -62,17 +62,15 @@ module _ (a : Answers) (p : ℕ) (xs : List ℕ) (i : ℕ) where
 
 -- the same of cells, of which f tells the glyphs
 module _ {C : Type 0} (f : C → Glyph) (a : Answers) (p : ℕ) (xs : List ℕ) (i : ℕ) where
-  pub draws_cell : (cells : List C) (n : ℕ) (x : C) (code pen : ℕ) (ys zs : List ℕ) (o : Inked) (e : ℕ)
-      → n < length cells → x ≡ get_or cells n x → code ≡ (f x).code → pen ≡ (f x).pen
-      → Draws a (map f (take n cells)) p xs ys i o → Pours (penned a o.pen pen ++ (code ∷ [])) ys zs o.count e
-      → e ≤ o.count + 17 → Draws a (map f (take (n + 1) cells)) p xs zs i (record { pen = pen; count = e })
-  draws_cell cells n x code pen ys zs o e below is coded inked h j few =
-      let glyph : Glyph = record { code = code; pen = pen } in
-      let same : f (get_or cells n x) ≡ glyph =
-      ap f (sym is) ∙ (λ k. record { code = sym coded k; pen = sym inked k }) in
-      subst (λ (gs : List Glyph). Draws a gs p xs zs i (record { pen = pen; count = e }))
-      (sym (map_more f cells n x below ∙ ap (λ (g : Glyph). map f (take n cells) ++ (g ∷ [])) same))
-      (draws_more a p xs i (map f (take n cells)) glyph ys zs o (record { pen = pen; count = e }) h j few refl)
+  pub draws_cell : (cells : List C) (n : ℕ) (x : C) (g : Glyph) (ys zs : List ℕ) (o : Inked) (e : ℕ)
+      → n < length cells → x ≡ get_or cells n x → g ≡ f x
+      → Draws a (map f (take n cells)) p xs ys i o → Pours (penned a o.pen g.pen ++ (g.code ∷ [])) ys zs o.count e
+      → e ≤ o.count + 17 → Draws a (map f (take (n + 1) cells)) p xs zs i (record { pen = g.pen; count = e })
+  draws_cell cells n x g ys zs o e below is drawn h j few =
+      let same : f (get_or cells n x) ≡ g = ap f (sym is) ∙ sym drawn in
+      subst (λ (gs : List Glyph). Draws a gs p xs zs i (record { pen = g.pen; count = e }))
+      (sym (map_more f cells n x below ∙ ap (λ (h : Glyph). map f (take n cells) ++ (h ∷ [])) same))
+      (draws_more a p xs i (map f (take n cells)) g ys zs o (record { pen = g.pen; count = e }) h j few refl)
 
   pub draws_cells : (cells : List C) (r : Run) (n : ℕ) (ys : List ℕ) (o : Inked)
       → length (take (r.end - r.first) (drop r.first cells)) ≤ n

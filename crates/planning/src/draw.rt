@@ -4,7 +4,7 @@ ghost use Rattle.plan.specs.Drawing.{cells_of, penned};
 ghost use Rattle.planning.specs.Pours.{Draws, Pours};
 
 use crate::pour::pour;
-use display::cell::{Cell, Glyph};
+use display::cell::{Cell, Glyph, glyph_of};
 use panel::panel::Panel;
 use runs::run::Run;
 
@@ -48,10 +48,7 @@ pub(crate) fn draw_run<P: Panel, C: Cell>(
 {
     let mut inked = Inked { pen, count };
     for cell in &wanted[run.first..run.end] {
-        let glyph = Glyph {
-            code: cell.code(),
-            pen: cell.pen(),
-        };
+        let glyph = glyph_of(cell);
         inked = Inked {
             count: draw_glyph(panel, glyph, inked.pen, output, inked.count),
             pen: glyph.pen,

@@ -53,7 +53,7 @@ fn each_entry_has_its_answer(rt: HostRuntime) -> Result<(), Fail> {
             pen: 0,
         },
     ];
-    let mut lines = [Line::NONE; 8];
+    let mut lines = [Line::none(); 8];
     let panel = DecPanel::new(heap, size)?;
     let kept = keep_log(
         panel,

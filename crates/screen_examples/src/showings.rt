@@ -82,6 +82,14 @@ fn a_row_tells_the_span_that_was_put(rt: HostRuntime) -> Result<(), Fail> {
     assert!(&rt; refused.is_err());
     let span = cab.screen.span(1).ok().ok_or("no row")?.ok_or("no span")?;
     assert_eq!(&rt; (span.first, span.last), (2, 5));
+    // a row that is walked by its span
+    let row = cab.wanted.get(8..16).ok_or("no cells")?;
+    let mut codes = [0u8; 4];
+    for (cell, code) in span.cells(row).ok_or("no row")?.iter().zip(&mut codes) {
+        *code = cell.code();
+    }
+    assert_eq!(&rt; codes, *b"   x");
+    assert!(&rt; span.cells(&cab.wanted).is_none());
     assert!(&rt; cab.screen.span(0).ok().ok_or("no row")?.is_none());
     assert!(&rt; cab.screen.span(2).is_err());
     assert!(&rt; cab.redraw().is_ok());

@@ -1,4 +1,6 @@
 // What is entered in a log.
+ghost use Rattle.std.specs.Prelude.{◌≡◌, Ok};
+
 use faults::fault::Fault;
 
 // A call of a screen. A showing is lent so many of the labels at hand, and so many bytes of the output that is left, or
@@ -38,9 +40,13 @@ pub struct Line {
 }
 
 impl Line {
-    // Nothing was sent.
-    pub const NONE: Line = Line {
-        answer: Ok(0),
-        first: 0,
-    };
+    // A line to begin with: nothing was sent.
+    pub fn none() -> Line
+        ensures { result ≡ record { answer = Ok 0; first = 0 } }
+    {
+        Line {
+            answer: Ok(0),
+            first: 0,
+        }
+    }
 }

@@ -5,8 +5,8 @@ use Rattle.planning.proofs.draw.draw_run.Goals as goal
 pub loop-cell-preserved : goal.loop-cell-preserved
 loop-cell-preserved g c =
     draws_cell g.C.Cell.glyph (g.P.Panel.answers c.args.panel.now) c.args.pen c.args.output.now c.args.count _
-    c.loop-cell.cell-index c.cell-item.result c.code.result c.pen.result c.loop-cell.output c.draw_glyph.new.output
-    c.loop-cell.inked c.draw_glyph.result c.loop-cell-test.true c.cell-item.is c.code.ensures c.pen.ensures
+    c.loop-cell.cell-index c.cell-item.result c.glyph_of-glyph.result c.loop-cell.output c.draw_glyph.new.output
+    c.loop-cell.inked c.draw_glyph.result c.loop-cell-test.true c.cell-item.is c.glyph_of-glyph.ensures
     c.loop-cell.invariant c.draw_glyph.ensures.pours c.draw_glyph.ensures.few
 
 pub returns : goal.returns
