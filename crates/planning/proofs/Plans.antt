@@ -9,7 +9,7 @@ use Rattle.display.specs.declared.place.Place.{Place}
 use Rattle.display.specs.declared.size.Size.{Size}
 use Rattle.labels.specs.declared.label.Label.{Label}
 use Rattle.panel.specs.Answers.{Answers}
-use Rattle.plan.specs.Plan.{Blocked, Plan}
+use Rattle.plan.specs.Plan.{Blocked}
 use Rattle.plan.specs.declared.stand.Stand.{Stand}
 use Rattle.plan.proofs.Unique.{plan_not_blocked, plan_one}
 use Rattle.planning.specs.Planned.{Looked, Planned, pictured}
@@ -69,6 +69,12 @@ module _ {V C K : Type 0} (c : Costs V) (a : Answers) (f : C → Glyph) (shown w
   pictured_is xs ys is = ap (map f) (is ∙ ap (λ (m : ℕ). take m xs)
       (places ∙ ap (λ (y : Size). y.rows * y.columns) same))
 
+  as_pictured : (xs ys : List ℕ) (s : Sent) → Wrote c a (map f gs) (map f hs) rest k head xs ys s
+      → Wrote c a (pictured a.size f shown) (pictured a.size f wanted) rest k head xs ys s
+  as_pictured xs ys s w =
+      subst (λ (x : List Glyph). Wrote c a x (pictured a.size f wanted) rest k head xs ys s) (pictured_is shown gs e)
+      (subst (λ (x : List Glyph). Wrote c a (map f gs) x rest k head xs ys s) (pictured_is wanted hs h) w)
+
   -- the bytes of the second walk, in an output that the first has left as it was
   pub planned : (xs mid ys : List ℕ) (m : ℕ) (s : Sent) → Looked c a f shown wanted head k rest ls ms xs ys
       → CountedAs c a (map f gs) (map f hs) rest k head xs mid m
@@ -79,13 +85,12 @@ module _ {V C K : Type 0} (c : Costs V) (a : Answers) (f : C → Glyph) (shown w
       let long = ap length first.output in
       record {
         looked = looked;
-        bytes = second.bytes;
-        plan = subst (λ (x : List Glyph). Plan c a x (pictured a.size f wanted) rest (resting k.place) k.pen
-            second.bytes s.pen) (pictured_is shown gs e)
-            (subst (λ (x : List Glyph). Plan c a (map f gs) x rest (resting k.place) k.pen second.bytes s.pen)
-            (pictured_is wanted hs h) second.plan);
-        count = let h = second.pours.end in omega arith;
-        fits = omega arith;
-        output = second.pours.laid (omega arith)
-            ∙ ap (λ (x : List ℕ). (head ++ second.bytes) ++ drop s.count x) first.output;
+        wrote = as_pictured xs ys s (record {
+          bytes = second.bytes;
+          plan = second.plan;
+          count = let h = second.pours.end in omega arith;
+          fits = omega arith;
+          output = second.pours.laid (omega arith)
+              ∙ ap (λ (x : List ℕ). (head ++ second.bytes) ++ drop s.count x) first.output;
+        });
       }

@@ -9,7 +9,7 @@
 --     Exceeds n          the output is shorter than the n bytes that are to be sent, and as it was
 --     Unplanned why      a reason why holds for which no plan is looked for, and nothing has changed
 --     Plans o            what o says of these has become of it
-use Rattle.std.specs.Prelude.{◌≡◌, ℕ, ◌*◌, ◌<◌, ◌≤◌, List, ◌++◌, Result, Ok, Err, drop, length, map, take}
+use Rattle.std.specs.Prelude.{◌≡◌, ℕ, ◌*◌, ◌<◌, List, Result, Ok, Err, length, map, take}
 use Rattle.cost.specs.Costs.{Costs}
 use Rattle.display.specs.Place.{On}
 use Rattle.display.specs.Surface.{place_of, resting}
@@ -21,9 +21,10 @@ use Rattle.faults.specs.declared.fault.Fault.TheVariants.{Outside, NotCode, NotP
 use Rattle.labels.specs.declared.label.Label.{Label}
 use Rattle.leg_search.specs.Find.{Astray}
 use Rattle.panel.specs.Answers.{Answers}
-use Rattle.plan.specs.Plan.{Blocked, Plan}
+use Rattle.plan.specs.Plan.{Blocked}
 use Rattle.plan.specs.declared.stand.Stand.{Stand}
 use Rattle.planning.specs.Enough.{Enough}
+use Rattle.planning.specs.Tried.{CountedAs, Wrote}
 use Rattle.planning.specs.declared.walk.Sent.{Sent}
 
 abbrev pub pictured : {C : Type 0} → Size → (C → Glyph) → List C → List Glyph
@@ -40,11 +41,7 @@ module _ {V C K : Type 0} (c : Costs V) (a : Answers) (f : C → Glyph) (shown w
 
   pub record Planned (s : Sent) : Type 0 where
     pub looked : Looked
-    pub bytes : List ℕ
-    pub plan : Plan c a (pictured a.size f shown) (pictured a.size f wanted) rest (resting k.place) k.pen bytes s.pen
-    pub count : s.count ≡ length (head ++ bytes)
-    pub fits : s.count ≤ length xs
-    pub output : ys ≡ (head ++ bytes) ++ drop s.count xs
+    pub wrote : Wrote c a (pictured a.size f shown) (pictured a.size f wanted) rest k head xs ys s
 
   pub record Blocks (row column : ℕ) : Type 0 where
     pub looked : Looked
@@ -54,12 +51,8 @@ module _ {V C K : Type 0} (c : Costs V) (a : Answers) (f : C → Glyph) (shown w
 
   pub record Exceeds (n : ℕ) : Type 0 where
     pub looked : Looked
-    pub bytes : List ℕ
-    pub pen : ℕ
-    pub plan : Plan c a (pictured a.size f shown) (pictured a.size f wanted) rest (resting k.place) k.pen bytes pen
-    pub needed : n ≡ length (head ++ bytes)
+    pub counted : CountedAs c a (pictured a.size f shown) (pictured a.size f wanted) rest k head xs ys n
     pub short : length xs < n
-    pub output : ys ≡ xs
 
   pub record Unplanned (why : Type 0) : Type 0 where
     pub because : why

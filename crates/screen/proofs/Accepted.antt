@@ -34,21 +34,22 @@ module _ {P C K V Mode : Type 0} (c : Costs V) (answers : P → Answers) (meanin
       → Outcome c answers meaning fed A (asked answers f st ws gs ls xs head begun shown k)
       st after ws gs gs' ls ms xs ys (Ok n)
   plan_accepted gs' ms ys sent after n ready p h = record {
-    bytes = head ++ p.bytes;
+    bytes = head ++ p.wrote.bytes;
     pen = sent.pen;
     answer = record {
       ready = ready;
-      planned = p.bytes;
-      plan = plan_same c (answers st.panel) _ shown _ st.rest alike (resting k.place) k.pen p.bytes sent.pen p.plan;
+      planned = p.wrote.bytes;
+      plan = plan_same c (answers st.panel) _ shown _ st.rest alike (resting k.place) k.pen p.wrote.bytes sent.pen
+          p.wrote.plan;
       bytes = refl;
-      count = h.count ∙ p.count;
-      fits = subst (λ (m : ℕ). m ≤ length xs) (sym h.count) p.fits;
+      count = h.count ∙ p.wrote.count;
+      fits = subst (λ (m : ℕ). m ≤ length xs) (sym h.count) p.wrote.fits;
     };
     fixed = h.fixed;
     fed_bytes = h.fed_bytes ∙ ap (feeds (fed (answers st.panel)) (meaning st.panel))
-        (written sent.count (head ++ p.bytes) xs ys p.count p.output);
+        (written sent.count (head ++ p.wrote.bytes) xs ys p.wrote.count p.wrote.output);
     state = h.state;
-    output = p.output ∙ ap (λ (m : ℕ). (head ++ p.bytes) ++ drop m xs) p.count;
+    output = p.wrote.output ∙ ap (λ (m : ℕ). (head ++ p.wrote.bytes) ++ drop m xs) p.wrote.count;
     shown = h.shown;
     labels = p.looked.labels;
     spared = tt;

@@ -103,10 +103,11 @@ module _ {P C K V Mode : Type 0} (c : Costs V) (answers : P → Answers) (meanin
           h.looked.labels (record { labels = λ i _. absurd (i refl) }) h.output
       plan_refused (OutputTooShort n) h =
           refused showing st ws gs ls ms xs ys (OutputTooShort n)
-          (too_short ready h.bytes h.pen
-          (plan_same c (answers st.panel) _ shown _ st.rest alike (resting k.place) k.pen h.bytes h.pen h.plan)
-          (subst (λ (n : ℕ). length xs < n) h.needed h.short) (ap (λ (n : ℕ). tell 7 (n ∷ [])) h.needed))
-          h.looked.labels (record { labels = λ _ i. absurd (i refl) }) h.output
+          (too_short ready h.counted.bytes h.counted.pen
+          (plan_same c (answers st.panel) _ shown _ st.rest alike (resting k.place) k.pen h.counted.bytes h.counted.pen
+          h.counted.plan)
+          (subst (λ (n : ℕ). length xs < n) h.counted.count h.short) (ap (λ (n : ℕ). tell 7 (n ∷ [])) h.counted.count))
+          h.looked.labels (record { labels = λ _ i. absurd (i refl) }) h.counted.output
       plan_refused (NotCode r q) h = absurd h
       plan_refused (NotPen r q) h = absurd h
       plan_refused (UnsafeCorner r q) h = absurd h
