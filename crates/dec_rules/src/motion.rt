@@ -1,5 +1,6 @@
 // The motions of the panel, which have numbers: where they land, their bytes, and how long they take.
 ghost use Rattle.std.specs.Prelude.{◌≡◌, ◌<◌, ◌≤◌, ◌++◌, length, take, decimal};
+ghost use Rattle.dec_rules.specs.Directions.{backward, steps, upright};
 ghost use Rattle.dec_rules.specs.Motions.{numbered as numbers, offered as offers, relative as relatively, spelled as spells, takes as lasts};
 
 use display::place::{Cursor, Place};
@@ -22,6 +23,32 @@ pub enum Motion {
     Left(u8),
     // straight to a place
     Address(Place),
+}
+
+impl Motion {
+    // Whether a motion goes up or down, and not along the row.
+    fn is_upright(self) -> bool
+        ensures { result ≡ upright self }
+    {
+        matches!(self, Motion::Feed | Motion::Up(_) | Motion::Down(_))
+    }
+
+    // Whether it goes up or to the left.
+    fn is_backward(self) -> bool
+        ensures { result ≡ backward self }
+    {
+        matches!(self, Motion::Back | Motion::Up(_) | Motion::Left(_))
+    }
+
+    // How many rows or columns it goes.
+    fn steps(self) -> u8
+        ensures { result ≡ steps self }
+    {
+        match self {
+            Motion::Up(n) | Motion::Down(n) | Motion::Right(n) | Motion::Left(n) => n,
+            _ => 1,
+        }
+    }
 }
 
 impl Moves for Motion {
@@ -48,19 +75,23 @@ impl Moves for Motion {
         }
     }
 
-    // While the cursor is held, only a return and an address are offered.
+    // While the cursor is held, only a return and an address are offered. A search asks this more often than anything
+    // else: it is told by two tests of the motion, since a jump by a table would take longer than all the rest.
     fn lands(self, size: Size, cursor: Cursor) -> Option<Place> {
         let place = cursor.place;
         match self {
-            Motion::Return => Some(Place { column: 0, ..place }),
-            Motion::Address(to) => Some(to),
-            _ if cursor.held => None,
-            Motion::Back => place.left_of(1),
-            Motion::Feed => size.below(place, 1),
-            Motion::Up(n) => place.above(n),
-            Motion::Down(n) => size.below(place, n),
-            Motion::Right(n) => size.right_of(place, n),
-            Motion::Left(n) => place.left_of(n),
+            Motion::Return => return Some(Place { column: 0, ..place }),
+            Motion::Address(to) => return Some(to),
+            _ => {}
+        }
+        if cursor.held {
+            return None;
+        }
+        match (self.is_upright(), self.is_backward()) {
+            (true, true) => place.above(self.steps()),
+            (true, false) => size.below(place, self.steps()),
+            (false, true) => place.left_of(self.steps()),
+            (false, false) => size.right_of(place, self.steps()),
         }
     }
 

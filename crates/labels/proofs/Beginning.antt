@@ -1,5 +1,5 @@
--- At the beginning one state is settled, at no cost, and all its motions are due. What is due and not offered, or costs
--- more than the best known to the goal, is dealt with.
+-- At the beginning one state is settled, at no cost, and all its motions are due. What is due and not offered is left out,
+-- and so is what is dealt with.
 use Rattle.std.proofs.Common.{◌≡◌, ◌≢◌, ◌⊎◌, inl, inr, ℕ, true, Some, refl, sym, ap, subst}
 use Rattle.legs.specs.Graph.{Graph, Leads, spent}
 use Rattle.legs.specs.Leg.{Leg}
@@ -7,7 +7,7 @@ use Rattle.legs.specs.Sane.{Sane}
 use Rattle.legs.specs.Sequence.{Sequence, none, then}
 use Rattle.legs.proofs.Ends.{above_zero}
 use Rattle.legs.proofs.Order.{same_at_most}
-use Rattle.labels.specs.Frontier.{Cheaper, DueAt, Frontier, Handled, Traced, beyond}
+use Rattle.labels.specs.Frontier.{DueAt, Frontier, Handled, Traced}
 use Rattle.labels.specs.Note.{Note}
 use Rattle.labels.specs.declared.label.Stage.TheVariants.{Unreached, Reached, Settled}
 use Rattle.labels.proofs.Improving.{same_or_not}
@@ -54,10 +54,11 @@ module _ {A V : Type 0} (g : Graph A V) (k : A) (ok : A → Type 0) (m : ℕ) (s
       traced_at x ox h (inl e) = subst (λ (y : A). Traced g k ok N y) (sym (s.apart x k ox s.begins e)) root_traced
       traced_at x ox h (inr e) = absurd (let i = c x ox e in cc)
 
-  -- what is due may be left out where it is not offered, or where the goal is known at less
+  -- what is due may be left out where it is not offered, or where it is dealt with
   pub left_out : (t : ℕ) (D D' : ℕ → ℕ → Type 0)
       → ((d u : A) (n : ℕ) → ok d → (N (g.number d)).stage ≡ Settled → g.step n d ≡ Some u → D (g.number d) n
-      → D' (g.number d) n ⊎ Cheaper g.costs (N t) (g.costs.plus (N (g.number d)).cost (g.weight n)))
+      → D' (g.number d) n
+      ⊎ Handled g N t (g.number u) (g.costs.plus (N (g.number d)).cost (g.weight n)) n (g.number d))
       → Frontier g k ok N t D → Frontier g k ok N t D'
   left_out t D D' but f = record {
     root = f.root;
@@ -67,11 +68,12 @@ module _ {A V : Type 0} (g : Graph A V) (k : A) (ok : A → Type 0) (m : ℕ) (s
   }
     where
       by_but : (d x : A) (n : ℕ)
-          → D' (g.number d) n ⊎ Cheaper g.costs (N t) (g.costs.plus (N (g.number d)).cost (g.weight n))
+          → D' (g.number d) n
+          ⊎ Handled g N t (g.number x) (g.costs.plus (N (g.number d)).cost (g.weight n)) n (g.number d)
           → Handled g N t (g.number x) (g.costs.plus (N (g.number d)).cost (g.weight n)) n (g.number d)
           ⊎ D' (g.number d) n
       by_but d x n (inl a) = inr a
-      by_but d x n (inr a) = inl (beyond a)
+      by_but d x n (inr a) = inl a
 
       handled_at : (d x : A) (n : ℕ) → ok d → (N (g.number d)).stage ≡ Settled → g.step n d ≡ Some x
           → Handled g N t (g.number x) (g.costs.plus (N (g.number d)).cost (g.weight n)) n (g.number d)

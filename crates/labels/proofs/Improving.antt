@@ -4,8 +4,8 @@ use Rattle.std.proofs.lemmas.Bool.Decides.{nat_tests}
 use Rattle.cost.specs.Costs.{CostLaws}
 use Rattle.legs.specs.Graph.{Graph}
 use Rattle.legs.specs.Leg.{Earlier}
-use Rattle.legs.proofs.Order.{at_most_below, same_at_most}
-use Rattle.labels.specs.Frontier.{Cheaper, Known}
+use Rattle.legs.proofs.Order.{same_at_most}
+use Rattle.labels.specs.Frontier.{Known}
 use Rattle.labels.specs.Note.{Note, beats, improved, improved_at, reached}
 use Rattle.labels.specs.declared.label.Stage.{Stage}
 use Rattle.labels.specs.declared.label.Stage.TheVariants.{Unreached, Reached, Settled}
@@ -84,10 +84,6 @@ module _ {A V : Type 0} (g : Graph A V) (l : CostLaws g.costs) where
         (h.tie (l.transitive _ _ _ i b.cost));
   }
 
-  pub better_cheaper : (a : Note V) (v w : V) (n r : ℕ) → Better a v n r → Cheaper g.costs a w
-      → Cheaper g.costs (reached v n r) w
-  better_cheaper a v w n r b h = record { reached = refl; below = at_most_below l _ _ _ b.cost h.below }
-
   -- the improved note, by cases
   pub data Improved (a x : Note V) (v : V) (n r : ℕ) : Type 0 where
     new : a.stage ≡ Unreached → x ≡ reached v n r → Improved a x v n r
@@ -109,3 +105,14 @@ module _ {A V : Type 0} (g : Graph A V) (l : CostLaws g.costs) where
       by_stage Unreached e = new e (ap (λ x. improved_at x g.costs a v n r) e)
       by_stage Reached e = at_reached e (beats g.costs v n r a) refl
       by_stage Settled e = stays e (ap (λ x. improved_at x g.costs a v n r) e)
+
+  -- a note that is as cheap already keeps its cost
+  pub improved_cost : (a : Note V) (v : V) (n r : ℕ) → a.stage ≡ Reached → g.costs.at_most a.cost v ≡ true
+      → (improved g.costs a v n r).cost ≡ a.cost
+  improved_cost a v n r e h = by_cases (is_improved a v n r)
+    where
+      by_cases : Improved a (improved g.costs a v n r) v n r → (improved g.costs a v n r).cost ≡ a.cost
+      by_cases (new i f) = absurd cc
+      by_cases (won i b f) = ap (λ (x : Note V). x.cost) f ∙ l.ties _ _ b.cost h
+      by_cases (lost i f) = ap (λ (x : Note V). x.cost) f
+      by_cases (stays i f) = ap (λ (x : Note V). x.cost) f

@@ -1,6 +1,7 @@
 pub mod Beginning
 pub mod Improving
 pub mod Kept
+pub mod Lines
 pub mod Memory
 pub mod Relaxing
 pub mod Settling

@@ -1,11 +1,11 @@
 -- Dealing with one motion of a settled state keeps what holds of the frontier; that motion is then no longer due.
-use Rattle.std.proofs.Common.{◌≡◌, ◌≢◌, ◌⊎◌, inl, inr, ◌∙◌, ℕ, Some, refl, sym, ap, subst}
+use Rattle.std.proofs.Common.{◌≡◌, ◌≢◌, ◌⊎◌, inl, inr, ◌∙◌, ℕ, true, Some, refl, sym, ap, subst}
 use Rattle.legs.specs.Graph.{Graph}
 use Rattle.legs.specs.Sane.{Sane}
-use Rattle.labels.specs.Frontier.{Cheaper, Frontier, Handled, Known, Labelled, beyond, done, known}
+use Rattle.labels.specs.Frontier.{Frontier, Handled, Known, Labelled, beyond, done, known}
 use Rattle.labels.specs.Note.{Note, Updated, improved, reached}
 use Rattle.labels.specs.declared.label.Stage.TheVariants.{Reached, Settled}
-use Rattle.labels.proofs.Improving.{Improved, better_cheaper, better_known, is_improved, lost, new, reached_known, same_or_not, stays, won}
+use Rattle.labels.proofs.Improving.{Improved, better_known, is_improved, lost, new, reached_known, same_or_not, stays, won}
 use Rattle.labels.proofs.Kept.{Fixed, still_labelled, still_settled, still_traced}
 
 module _ {A V : Type 0} (g : Graph A V) (k : A) (ok : A → Type 0) (m : ℕ) (s : Sane g k ok m)
@@ -47,13 +47,23 @@ module _ {A V : Type 0} (g : Graph A V) (k : A) (ok : A → Type 0) (m : ℕ) (s
   known_here w p q (lost a e) h = subst (λ (x : Note V). Known g x w p q) (sym e) h
   known_here w p q (stays a e) h = subst (λ (x : Note V). Known g x w p q) (sym e) h
 
-  cheaper_here : (w : V) → Improved g s.laws (N (g.number u)) (N' (g.number u)) v n r
-      → Cheaper g.costs (N (g.number u)) w → Cheaper g.costs (N' (g.number u)) w
-  cheaper_here w (new a e) h = let i = h.reached in absurd cc
-  cheaper_here w (won a b e) h = subst (λ (x : Note V). Cheaper g.costs x w) (sym e)
-      (better_cheaper g s.laws _ v w n r b h)
-  cheaper_here w (lost a e) h = subst (λ (x : Note V). Cheaper g.costs x w) (sym e) h
-  cheaper_here w (stays a e) h = subst (λ (x : Note V). Cheaper g.costs x w) (sym e) h
+  -- known at a cost or less
+  record Within (a : Note V) (w : V) : Type 0 where
+    reached : a.stage ≡ Reached
+    below : g.costs.at_most a.cost w ≡ true
+
+  within_here : (w : V) → Improved g s.laws (N (g.number u)) (N' (g.number u)) v n r
+      → Within (N (g.number u)) w → Within (N' (g.number u)) w
+  within_here w (new a e) h = let i = h.reached in absurd cc
+  within_here w (won a b e) h = subst (λ (x : Note V). Within x w) (sym e)
+      (record { reached = refl; below = s.laws.transitive _ _ _ b.cost h.below })
+  within_here w (lost a e) h = subst (λ (x : Note V). Within x w) (sym e) h
+  within_here w (stays a e) h = subst (λ (x : Note V). Within x w) (sym e) h
+
+  still_within : (w : V) → Within (N t) w → (t ≡ g.number u) ⊎ (t ≢ g.number u) → Within (N' t) w
+  still_within w h (inl e) = subst (λ (x : ℕ). Within (N' x) w) (sym e)
+      (within_here w how (subst (λ (x : ℕ). Within (N x) w) e h))
+  still_within w h (inr e) = subst (λ (x : Note V). Within x w) (sym (up.there t e)) h
 
   still_handled : (j : ℕ) (w : V) (p q : ℕ) → Handled g N t j w p q → Handled g N' t j w p q
   still_handled j w p q (done h) = done (still_settled g k ok N N' fixed j h)
@@ -63,12 +73,9 @@ module _ {A V : Type 0} (g : Graph A V) (k : A) (ok : A → Type 0) (m : ℕ) (s
       by_cases (inl e) = known (subst (λ (x : ℕ). Known g (N' x) w p q) (sym e)
           (known_here w p q how (subst (λ (x : ℕ). Known g (N x) w p q) e h)))
       by_cases (inr e) = known (subst (λ (x : Note V). Known g x w p q) (sym (up.there j e)) h)
-  still_handled j w p q (beyond h) = by_cases (same_or_not t (g.number u))
-    where
-      by_cases : (t ≡ g.number u) ⊎ (t ≢ g.number u) → Handled g N' t j w p q
-      by_cases (inl e) = beyond (subst (λ (x : ℕ). Cheaper g.costs (N' x) w) (sym e)
-          (cheaper_here w how (subst (λ (x : ℕ). Cheaper g.costs (N x) w) e h)))
-      by_cases (inr e) = beyond (subst (λ (x : Note V). Cheaper g.costs x w) (sym (up.there t e)) h)
+  still_handled j w p q (beyond h) =
+      let i = still_within w (record { reached = h.reached; below = h.below }) (same_or_not t (g.number u)) in
+      beyond (record { apart = h.apart; reached = i.reached; below = i.below })
 
   handled_here : Improved g s.laws (N (g.number u)) (N' (g.number u)) v n r → Handled g N' t (g.number u) v n r
   handled_here (new a e) = known (subst (λ (x : Note V). Known g x v n r) (sym e) (reached_known g s.laws v n r))

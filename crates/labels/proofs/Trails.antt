@@ -8,7 +8,7 @@ use Rattle.legs.specs.Leg.{Leg}
 use Rattle.legs.specs.Sane.{Sane}
 use Rattle.legs.specs.Sequence.{Sequence, count, none, then}
 use Rattle.legs.proofs.Ends.{ends_ok, one_end}
-use Rattle.legs.proofs.Short.{landed, shorter, visited}
+use Rattle.legs.proofs.Short.{landed, shorter, shorter_by_two, visited}
 use Rattle.legs.proofs.Unique.{unique}
 use Rattle.labels.specs.Frontier.{Back, Labelled, Traced}
 use Rattle.labels.specs.Note.{Note}
@@ -75,6 +75,19 @@ module _ {A V : Type 0} (g : Graph A V) (k : A) (ok : A → Type 0) (m : ℕ) (s
       by_cases : (b : Bool) → list_any (eqb t) (visited g k w) ≡ b → count w + 1 ≤ m
       by_cases true e = absurd (ns (on_leg w u o h l t e))
       by_cases false e = shorter g k ok m s w u l t i e
+
+  -- and room for two where it is not the goal, nor another state that is not settled
+  pub room_for_two : (w : Sequence) (u : A) → ok u → (N (g.number u)).stage ≡ Settled → Leg g k w u
+      → (t : ℕ) → t < m → ((N t).stage ≡ Settled → ⊥) → (q : ℕ) → q < m → ((N q).stage ≡ Settled → ⊥) → eqb t q ≡ false
+      → count w + 2 ≤ m
+  room_for_two w u o h l t i ns q j nq ne =
+      by_cases (list_any (eqb t) (visited g k w)) refl (list_any (eqb q) (visited g k w)) refl
+    where
+      by_cases : (b : Bool) → list_any (eqb t) (visited g k w) ≡ b → (d : Bool)
+          → list_any (eqb q) (visited g k w) ≡ d → count w + 2 ≤ m
+      by_cases true e d f = absurd (ns (on_leg w u o h l t e))
+      by_cases false e true f = absurd (nq (on_leg w u o h l q f))
+      by_cases false e false f = shorter_by_two g k ok m s w u l t q i j ne e f
 
 module _ {A V : Type 0} (g : Graph A V) (k : A) (ok : A → Type 0) (m : ℕ) (s : Sane g k ok m) (N : ℕ → Note V)
     (traced : (u : A) → ok u → (N (g.number u)).stage ≡ Settled → Traced g k ok N u) where

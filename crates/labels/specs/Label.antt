@@ -1,16 +1,12 @@
--- What a label says of its state, and which motion it holds.
+-- What a label says of its state, and which number it holds.
 --     note f l      the note that the label l is, where f tells the value of a cost
 --     unnoted v     the note of no label
 --     noted f v ls  the notes of the labels ls, by the states' numbers; v is the value of no cost
---     step_of l     the motion of a leg that l holds
---     waiting s     1 for a stage s that is not settled, and 0 for a settled one
---     unsettled ls  how many of the labels are not of settled states
+--     step_of l     the number that l holds
 use Rattle.std.specs.Prelude.{ℕ, List, map, slice_index_or}
-use Rattle.std.specs.List.{sum_by}
 use Rattle.labels.specs.Note.{Note}
 use Rattle.labels.specs.declared.label.Label.{Label}
-use Rattle.labels.specs.declared.label.Stage.{Stage}
-use Rattle.labels.specs.declared.label.Stage.TheVariants.{Unreached, Reached, Settled}
+use Rattle.labels.specs.declared.label.Stage.TheVariants.{Unreached}
 
 abbrev pub note : {K V : Type 0} → (K → V) → Label K → Note V
 note f l = record { stage = l.stage; cost = f l.cost; motion = l.motion; from = l.from }
@@ -23,11 +19,3 @@ noted f v ls j = slice_index_or (map (note f) ls) j (unnoted v)
 
 abbrev pub step_of : {K : Type 0} → Label K → ℕ
 step_of l = l.step
-
-abbrev pub waiting : Stage → ℕ
-waiting Unreached = 1
-waiting Reached = 1
-waiting Settled = 0
-
-unfoldable pub unsettled : {K : Type 0} → List (Label K) → ℕ
-unsettled ls = sum_by (λ l. waiting l.stage) ls

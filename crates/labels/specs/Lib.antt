@@ -1,4 +1,5 @@
 pub mod Frontier
 pub mod Label
+pub mod Line
 pub mod Note
 pub mod Trail

@@ -17,8 +17,8 @@ pub enum Stage {
 }
 
 // What a search knows of a state: the cost of the best sequence to it so far, that sequence's last motion and the
-// number of the state from which it departs. Beside that a label holds one motion of a leg, which has nothing to do
-// with its state: when a search is done, the labels in a row hold the motions of the leg in a row.
+// number of the state from which it departs. Beside that a label holds one number, which has nothing to do with its
+// state: while a search runs, that of the state at a place of its line; afterwards, that of a motion of the leg.
 #[derive(Clone, Copy, Debug)]
 pub struct Label<K> {
     cost: K,
@@ -80,14 +80,14 @@ impl<K: Cost> Label<K> {
         self.stage
     }
 
-    // The motion of a leg that the label holds.
+    // The number that the label holds.
     pub fn step(&self) -> u16
         ensures { result ≡ step_of self.now }
     {
         self.step
     }
 
-    // Holds a motion of a leg.
+    // Holds a number: of a state in a search's line, or of a motion of a leg.
     pub fn hold(&mut self, motion: u16)
         ensures note { note K.value self.new ≡ note K.value self.old }
         ensures step { step_of self.new ≡ motion }

@@ -2,7 +2,7 @@
 use Rattle.std.proofs.Common.{◌≡◌, ◌≢◌, ◌⊎◌, inl, inr, ◌∙◌, ℕ, ◌+◌, ◌-◌, ◌<◌, ◌≤◌, List, [], ◌∷◌, ◌++◌, length, get_or, map, take, drop, sym, ap, arith, append_assoc}
 use Rattle.std.proofs.Math.ListN.{drop_of_length-le, set}
 use Rattle.std.proofs.Math.Seq.{map-set_same, take-set-lt}
-use Rattle.std.proofs.lemmas.List.{drop-set, length-take-le}
+use Rattle.std.proofs.lemmas.List.{drop-set, get_or_past, length-map, length-take-le}
 use Rattle.cost.specs.Costs.{Costs}
 use Rattle.labels.specs.Label.{note, noted, step_of, unnoted}
 use Rattle.labels.specs.Note.{Note, settled}
@@ -26,18 +26,24 @@ module _ {K V : Type 0} (f : K → V) (c : Costs V) where
       by_cases j lt (inr q) = ap (λ (a : Note V). a.stage) ((noted_set f c.zero ls i l h).there j q)
           ∙ cl.unreached j (omega arith)
 
-  pub prepares : (ls : List (Label K)) (m b : ℕ) (l : Label K) → b ≤ m → m < length ls
-      → note f l ≡ settled (unnoted c.zero) → Cleared (noted f c.zero ls) (m + 1)
-      → Prepared c (noted f c.zero (set ls b l)) m b
-  prepares ls m b l h i e cl =
-      let lt : b < length ls = omega arith in
-      let up = noted_set f c.zero ls b l lt in
+  pub prepares : (ls : List (Label K)) (n b : ℕ) (l : Label K) → b < length ls → length ls ≤ n
+      → note f l ≡ settled (unnoted c.zero) → Cleared (noted f c.zero ls) n → Prepared c (noted f c.zero (set ls b l)) b
+  prepares ls n b l h i e cl =
+      let up = noted_set f c.zero ls b l h in
       let p : noted f c.zero (set ls b l) b ≡ settled (unnoted c.zero) = up.here ∙ e in
       record {
         settled = ap (λ (a : Note V). a.stage) p;
         cost = ap (λ (a : Note V). a.cost) p;
-        others = λ j le ne. ap (λ (a : Note V). a.stage) (up.there j ne) ∙ cl.unreached j (omega arith);
+        others = λ j ne. ap (λ (a : Note V). a.stage) (up.there j ne) ∙ by_cases j (either j n);
       }
+    where
+      either : (j m : ℕ) → (j < m) ⊎ (m ≤ j)
+      either j m = grind arith
+
+      by_cases : (j : ℕ) → (j < n) ⊎ (n ≤ j) → (noted f c.zero ls j).stage ≡ Unreached
+      by_cases j (inl lt) = cl.unreached j lt
+      by_cases j (inr le) = ap (λ (a : Note V). a.stage) (get_or_past (map (note f) ls) j (unnoted c.zero)
+          (let m = length-map ls (note f) in omega arith))
 
   -- holding a motion changes no note
   pub same_notes : (ls : List (Label K)) (i : ℕ) (l d : Label K) → note f l ≡ note f (get_or ls i d)

@@ -1,18 +1,21 @@
--- A whole search: how it begins, and what it has found where the goal's turn comes, or where none is reached any more.
-use Rattle.std.proofs.Common.{◌≡◌, ◌≢◌, ◌⊎◌, inl, inr, ◌∙◌, ℕ, ◌*◌, ◌<◌, ◌≤◌, Bool, true, false, cond, List, length, refl, sym, ap, subst, arith}
+-- A whole search: how it begins, and what it has found in the end. Where the goal is reached, and all that is due comes to
+-- more, the notes tell its leg; where it is not, and nothing is due, no sequence leads there.
+use Rattle.std.proofs.Common.{◌≡◌, ◌≢◌, ◌⊎◌, inl, inr, ◌∙◌, ℕ, ◌<◌, ◌≤◌, true, false, List, length, refl, sym, ap, subst, arith}
 use Rattle.cost.specs.Costs.{CostLaws, Costs}
 use Rattle.display.specs.Place.{On, number}
 use Rattle.display.specs.Surface.{resting}
 use Rattle.display.specs.declared.place.Cursor.{Cursor}
 use Rattle.display.specs.declared.place.Place.{Place}
-use Rattle.display.proofs.Places.{number_below}
-use Rattle.labels.specs.Frontier.{DueAt, Frontier, NoneDue}
+use Rattle.labels.specs.Frontier.{Dearer, DueAt, Frontier}
 use Rattle.labels.specs.Note.{Note}
 use Rattle.labels.specs.Trail.{Trail}
-use Rattle.labels.specs.declared.label.Stage.TheVariants.{Unreached, Reached, Settled}
-use Rattle.labels.proofs.Beginning.{begun, stay}
+use Rattle.labels.specs.declared.label.Stage.TheVariants.{Unreached, Reached}
+use Rattle.labels.proofs.Beginning.{begun, left_out, stay}
+use Rattle.labels.proofs.Improving.{same_or_not}
+use Rattle.labels.proofs.Lines.{all_dearer}
 use Rattle.labels.proofs.Settling.{all_settled, way, way_leg, way_spent}
 use Rattle.labels.proofs.Trails.{label_trail}
+use Rattle.legs.proofs.Order.{same_at_most}
 use Rattle.legs.proofs.Panels.{sane}
 use Rattle.legs.proofs.Short.{short}
 use Rattle.legs.proofs.Unique.{least_of_leg, unique}
@@ -20,101 +23,24 @@ use Rattle.legs.specs.Graph.{spent}
 use Rattle.legs.specs.Leg.{Leg}
 use Rattle.legs.specs.Sane.{Node}
 use Rattle.legs.specs.Scene.{NoWay, Scene, graph, numbered}
-use Rattle.legs.specs.Sequence.{Sequence, count, listed, none}
+use Rattle.legs.specs.Sequence.{count, Sequence, listed, none}
+use Rattle.leg_search.proofs.Classing.{classes, price_adds}
 use Rattle.leg_search.specs.Answer.{Tells}
-use Rattle.leg_search.specs.Numbers.{Numbers}
 use Rattle.leg_search.specs.declared.leg.Leg.{Leg as Told}
 use Rattle.labels.specs.declared.label.Label.{Label}
 use Rattle.leg_search.specs.Memory.{Prepared, Traces, Trailed, held}
-use Rattle.leg_search.specs.Scan.{Carries, Waits}
-use Rattle.leg_search.specs.Turn.{Cheapest, NoneReached}
+use Rattle.leg_search.specs.Reach.{DueIn, Reach, Searching}
+use Rattle.leg_search.specs.Run.{Ended}
+use Rattle.leg_search.specs.Task.{Asks, Fit, OfClass, Task, asked, places, price}
 use Rattle.panel.specs.Answers.{Bounded}
 
 module _ {V : Type 0} (c : Costs V) (l : CostLaws c) (s : Scene) (b : Bounded s.answers) (k : Cursor)
     (on : On s.answers.size k.place) where
-  abbrev places : ℕ
-  places = s.answers.size.rows * s.answers.size.columns
-
-  pub start_node : Node s.answers k k
+  start_node : Node s.answers k k
   start_node = record { on = on; free = inr refl }
 
-  pub goal_node : (q : Place) → On s.answers.size q → Node s.answers k (resting q)
+  goal_node : (q : Place) → On s.answers.size q → Node s.answers k (resting q)
   goal_node q h = record { on = h; free = inl refl }
-
-  unheld_number : (e : Cursor) → e.held ≡ false → numbered s.answers.size e ≡ number s.answers.size e.place
-  unheld_number e f = ap (λ t. cond t (s.answers.size.rows * s.answers.size.columns) (number s.answers.size e.place)) f
-
-  -- a cursor that is not held has the number of a place
-  unheld_below : (e : Cursor) → On s.answers.size e.place → e.held ≡ false → numbered s.answers.size e < places
-  unheld_below e h f = subst (λ (i : ℕ). i < places) (sym (unheld_number e f)) (number_below s.answers.size e.place h)
-
-  pub begins : (N : ℕ → Note V) (t i : ℕ) → i ≡ numbered s.answers.size k → Prepared c N places i
-      → Frontier (graph c s) k (Node s.answers k) N t (DueAt i)
-  begins N t i e p =
-      subst (λ (x : ℕ). Frontier (graph c s) k (Node s.answers k) N t (DueAt x)) (sym e)
-      (begun (graph c s) k (Node s.answers k) _ (sane c l s b k on) N t
-      (subst (λ (x : ℕ). (N x).stage ≡ Settled) e p.settled)
-      (subst (λ (x : ℕ). (N x).cost ≡ c.zero) e p.cost)
-      (λ x nx ne. others x nx ne nx.free))
-    where
-      others : (x : Cursor) → Node s.answers k x → numbered s.answers.size x ≢ numbered s.answers.size k
-          → (x.held ≡ false) ⊎ (x ≡ k) → (N (numbered s.answers.size x)).stage ≡ Unreached
-      others x nx ne (inl f) =
-          let h = unheld_below x nx.on f in p.others (numbered s.answers.size x) (omega arith) (λ q. ne (q ∙ e))
-      others x nx ne (inr f) = absurd (ne (ap (numbered s.answers.size) f))
-
-  module _ (N : ℕ → Note V) (t : ℕ) (f : Frontier (graph c s) k (Node s.answers k) N t NoneDue)
-      (q : Place) (oq : On s.answers.size q) (is : t ≡ number s.answers.size q) (waits : (N t).stage ≢ Settled) where
-    reached_below : (x : Cursor) → Node s.answers k x → (N (numbered s.answers.size x)).stage ≡ Reached
-        → numbered s.answers.size x < places
-    reached_below x nx h = by_cases x.held refl nx.free
-      where
-        by_cases : (t2 : Bool) → x.held ≡ t2 → (x.held ≡ false) ⊎ (x ≡ k) → numbered s.answers.size x < places
-        by_cases false e z = unheld_below x nx.on e
-        by_cases true e (inl z) = unheld_below x nx.on z
-        by_cases true e (inr z) = absurd (
-            let i = ap (λ (y : Cursor). (N (numbered s.answers.size y)).stage) z in let j = f.root in cc)
-
-    pub no_way : NoneReached N 0 places → NoWay c s k q
-    no_way nr x h = waits (ap (λ (i : ℕ). (N i).stage) is
-        ∙ all_settled (graph c s) k (Node s.answers k) _ (sane c l s b k on) N t f
-        (λ y ny r. nr.none (numbered s.answers.size y) (omega arith) (reached_below y ny r) r)
-        (resting q) (goal_node q oq) is x (resting q) h)
-
-    -- the leg, as the notes tell it
-    pub record Reaches : Type 0 where
-      pub way : Sequence
-      pub leg : Leg (graph c s) k way (resting q)
-      pub cost : spent (graph c s) way ≡ (N t).cost
-      pub trail : Trail N (numbered s.answers.size k) places way t
-
-    module _ (ch : Cheapest c N 0 places t) where
-      reached_here : (N (number s.answers.size q)).stage ≡ Reached
-      reached_here = ap (λ (i : ℕ). (N i).stage) (sym is) ∙ ch.reached
-
-      cheapest_at : (x : Cursor) → Node s.answers k x → (N (numbered s.answers.size x)).stage ≡ Reached
-          → c.at_most (N (number s.answers.size q)).cost (N (numbered s.answers.size x)).cost ≡ true
-      cheapest_at x nx h = subst (λ (i : ℕ). c.at_most (N i).cost (N (numbered s.answers.size x)).cost ≡ true) is
-          (ch.least (numbered s.answers.size x) (omega arith) (reached_below x nx h) h)
-
-      pub reaches : Reaches
-      reaches = record {
-        way = way (graph c s) k (Node s.answers k) _ (sane c l s b k on) N t f (resting q) (goal_node q oq) reached_here
-            (resting q) (goal_node q oq) is cheapest_at;
-        leg = way_leg (graph c s) k (Node s.answers k) _ (sane c l s b k on) N t f (resting q) (goal_node q oq)
-            reached_here
-            (resting q) (goal_node q oq) is cheapest_at;
-        cost = way_spent (graph c s) k (Node s.answers k) _ (sane c l s b k on) N t f (resting q) (goal_node q oq)
-            reached_here (resting q) (goal_node q oq) is cheapest_at
-            ∙ ap (λ (i : ℕ). (N i).cost) (sym is);
-        trail = subst (λ (i : ℕ). Trail N (numbered s.answers.size k) places
-            (way (graph c s) k (Node s.answers k) _ (sane c l s b k on) N t f (resting q) (goal_node q oq) reached_here
-            (resting q) (goal_node q oq) is cheapest_at) i) (sym is)
-            (label_trail (graph c s) k (Node s.answers k) _ (sane c l s b k on) N f.traced (resting q) reached_here
-            f.root
-            (subst (λ (i : ℕ). i < places) is ch.below)
-            (f.labelled (resting q) (goal_node q oq) reached_here));
-      }
 
   -- what a search tells of a leg, from the leg, the labels that hold its motions and the cost that is told
   pub tells : {K : Type 0} (f : K → V) (ls : List (Label K)) (a : Told K) (q : Place) (w : Sequence)
@@ -140,40 +66,149 @@ module _ {V : Type 0} (c : Costs V) (l : CostLaws c) (s : Scene) (b : Bounded s.
       ((sane c l s b k on).apart k (resting q) start_node (goal_node q oq) e)
       (stay (graph c s) k (Node s.answers k) _ (sane c l s b k on) N)
 
-  -- once the motions of the beginning are taken, nothing is due
-  module _ (N M : ℕ → Note V) (q : Place) (m i t : ℕ) (nums : Numbers s.answers.size k q m i t)
-      (p : Prepared c N m i) where
-    pub after_scan : Carries c s k N M t (DueAt i) NoneDue → Frontier (graph c s) k (Node s.answers k) M t NoneDue
-    after_scan h = h.frontier k on start_node
-        (begins N t i nums.beginning (subst (λ (x : ℕ). Prepared c N x i) nums.places p))
+module _ {V : Type 0} (x : Task V) (l : CostLaws x.costs) (bd : Bounded x.scene.answers) (q : Asks x) where
+  -- at the beginning one state is settled, which stands in the line alone
+  module _ (N : ℕ → Note V) (L next : ℕ → ℕ) (p : Prepared x.costs N (numbered x.scene.answers.size x.start))
+      (apart : numbered x.scene.answers.size x.start ≢ x.goal)
+      (first : L 0 ≡ numbered x.scene.answers.size x.start) (none_taken : (d : ℕ) → next d ≡ 0) where
+    abbrev begin : ℕ
+    begin = numbered x.scene.answers.size x.start
 
-    pub goal_waits : i ≢ t → Waits N M → (M t).stage ≢ Settled
-    goal_waits ne w h =
-        let a = w.still t h in
-        let lt = nums.goal_in in
-        let u = p.others t (omega arith) (λ e. ne (sym e)) in cc
+    abbrev first_reach : Reach V
+    first_reach = record { notes = N; line = L; end = 1; next = next }
 
-  -- the notes tell the leg by the numbers that the search goes by
-  module _ (N : ℕ → Note V) (q : Place) (m i t : ℕ) (nums : Numbers s.answers.size k q m i t)
-      (f : Frontier (graph c s) k (Node s.answers k) N t NoneDue) (oq : On s.answers.size q)
-      (waits : (N t).stage ≢ Settled)
-      (ch : Cheapest c N 0 places t) where
-    abbrev found : Reaches N t f q oq nums.goal waits
-    found = reaches N t f q oq nums.goal waits ch
+    only : (a : ℕ) → a < 1 → L a ≡ begin
+    only a h = let e : a ≡ 0 = omega arith in ap L e ∙ first
 
-    pub found_trail : Trail N i m found.way t
-    found_trail =
-        subst (λ (x : ℕ). Trail N x m found.way t) (sym nums.beginning)
-        (subst (λ (x : ℕ). Trail N (numbered s.answers.size k) x found.way t) (sym nums.places) found.trail)
+    is_begin : (a : ℕ) → (N a).stage ≢ Unreached → a ≡ begin
+    is_begin a h = by_cases (same_or_not a begin)
+      where
+        by_cases : (a ≡ begin) ⊎ (a ≢ begin) → a ≡ begin
+        by_cases (inl e) = e
+        by_cases (inr e) = absurd (h (p.others a e))
 
-    pub trailed : Trailed N i t m
-    trailed = record {
-      way = found.way;
-      trail = found_trail;
-      short = subst (λ (x : ℕ). count found.way ≤ x) (sym nums.places)
-          (short (graph c s) k (Node s.answers k) _ (sane c l s b k on) found.way (resting q) found.leg);
+    begin_due : Frontier (asked x) x.start (Fit x) N x.goal (DueIn x first_reach)
+    begin_due =
+        let sn = sane x.costs l x.scene bd x.start q.start in
+        left_out (asked x) x.start (Fit x) _ sn N x.goal (DueAt begin) (DueIn x first_reach)
+        (λ d u n od se st due. inl (
+        let o = (classes x q bd).classed d u n od st in
+        record {
+          place = 0;
+          within = omega arith;
+          is = first ∙ sym due;
+          class = o.class;
+          is_of = o.is_of;
+          from = let y = none_taken o.class in omega arith;
+        }))
+        (begun (asked x) x.start (Fit x) _ sn N x.goal p.settled p.cost
+        (λ u fu ne. p.others (numbered x.scene.answers.size u) ne))
+
+    pub searching_first : Searching x first_reach
+    searching_first = record {
+      settled = 1;
+      stands = record {
+        frontier = begin_due;
+        line = record {
+          within = omega arith;
+          settled = λ a h. ap (λ (y : ℕ). (N y).stage) (only a h) ∙ p.settled;
+          reached = λ a h o. absurd (omega arith);
+          others = λ a h e. apart (sym (only a h) ∙ e);
+          of_settled = λ a h ne. record {
+            place = 0;
+            from = omega arith;
+            below = omega arith;
+            is = first ∙ sym (is_begin a (λ e. absurd cc));
+          };
+          of_reached = λ a h ne. absurd (
+              let e = is_begin a (λ o. absurd cc) in
+              let o = ap (λ (y : ℕ). (N y).stage) (sym e) in let z = p.settled in cc);
+          sorted = λ a o h e. subst (λ (y : ℕ). x.costs.at_most (N (L a)).cost (N (L y)).cost ≡ true)
+              (let z : a ≡ o = omega arith in z) (same_at_most l (N (L a)).cost);
+        };
+        early = record { early = λ d h. let y = none_taken d in omega arith };
+        waits = λ e. apart (sym (is_begin x.goal (λ o. absurd cc)));
+        begun = omega arith;
+        begins = first;
+        inside = λ a h o. absurd (omega arith);
+        apart = λ a o h e. absurd (omega arith);
+      };
+      cost = x.costs.zero;
+      late = record {
+        listed = λ a h. subst (λ (y : V). x.costs.at_most y x.costs.zero ≡ true) (sym (cost_of a h))
+            (same_at_most l x.costs.zero);
+        due = λ d h o. subst (λ (y : V). x.costs.at_most x.costs.zero (x.costs.plus y (price x d)) ≡ true)
+            (sym (cost_of (next d) o)) (l.total _ _ (price_adds x q l x.costs.zero d h));
+        goal = λ e. absurd (apart (sym (is_begin x.goal (λ o. absurd cc))));
+      };
     }
+      where
+        cost_of : (a : ℕ) → a < 1 → (N (L a)).cost ≡ x.costs.zero
+        cost_of a h = ap (λ (y : ℕ). (N y).cost) (only a h) ∙ p.cost
 
-    pub told : {K : Type 0} (g : K → V) (ls : List (Label K)) (a : Told K) → a.first ≤ a.end → a.end ≤ length ls
-        → Traces N i t m (held ls a.first a.end) → g a.cost ≡ (N t).cost → Tells c g s k q ls a
-    told g ls a h j tr e = tells g ls a q found.way found.leg h j (tr.traces found.way found_trail) (e ∙ sym found.cost)
+  -- in the end
+  module _ (N : ℕ → Note V) (D : ℕ → ℕ → Type 0) (en : Ended x N D) (p : Place) (on : On x.scene.answers.size p)
+      (is : x.goal ≡ number x.scene.answers.size p) where
+    goal_fit : Fit x (resting p)
+    goal_fit = record { on = on; free = inl refl }
+
+    pub no_way : (N x.goal).stage ≢ Reached → NoWay x.costs x.scene x.start p
+    no_way ne w h = en.waits (ap (λ (a : ℕ). (N a).stage) is
+        ∙ all_settled (asked x) x.start (Fit x) _ (sane x.costs l x.scene bd x.start q.start) N x.goal D en.frontier
+        (en.empty ne) (resting p) goal_fit is (λ d u n od se st due. en.over ne d u n od st due) w (resting p) h)
+
+    -- the leg, as the notes tell it
+    pub record Reaches : Type 0 where
+      pub way : Sequence
+      pub leg : Leg (asked x) x.start way (resting p)
+      pub cost : spent (asked x) way ≡ (N x.goal).cost
+      pub trail : Trail N (numbered x.scene.answers.size x.start) (places x) way x.goal
+
+    module _ (h : (N x.goal).stage ≡ Reached) where
+      reached_here : (N (number x.scene.answers.size p)).stage ≡ Reached
+      reached_here = ap (λ (a : ℕ). (N a).stage) (sym is) ∙ h
+
+      dearer : Dearer (asked x) x.start (Fit x) N D (N (number x.scene.answers.size p)).cost
+      dearer = subst (λ (a : ℕ). Dearer (asked x) x.start (Fit x) N D (N a).cost) is (en.dearer h)
+
+      pub reaches : Reaches
+      reaches =
+          let sn = sane x.costs l x.scene bd x.start q.start in
+          record {
+            way = way (asked x) x.start (Fit x) _ sn N x.goal D en.frontier (resting p) goal_fit reached_here dearer
+                (inl (sym is));
+            leg = way_leg (asked x) x.start (Fit x) _ sn N x.goal D en.frontier (resting p) goal_fit reached_here
+                dearer (inl (sym is));
+            cost = way_spent (asked x) x.start (Fit x) _ sn N x.goal D en.frontier (resting p) goal_fit reached_here
+                dearer (inl (sym is)) ∙ ap (λ (a : ℕ). (N a).cost) (sym is);
+            trail = subst (λ (a : ℕ). Trail N (numbered x.scene.answers.size x.start) (places x)
+                (way (asked x) x.start (Fit x) _ sn N x.goal D en.frontier (resting p) goal_fit reached_here dearer
+                (inl (sym is))) a) (sym is)
+                (label_trail (asked x) x.start (Fit x) _ sn N en.frontier.traced (resting p) reached_here
+                en.frontier.root
+                (subst (λ (a : ℕ). a < places x) is q.goal)
+                (en.frontier.labelled (resting p) goal_fit reached_here));
+          }
+
+      -- by the numbers that the search goes by
+      module _ (b m : ℕ) (begins : b ≡ numbered x.scene.answers.size x.start) (few : m ≡ places x) where
+        found_trail : Trail N b m reaches.way x.goal
+        found_trail =
+            subst (λ (i : ℕ). Trail N i m reaches.way x.goal) (sym begins)
+            (subst (λ (i : ℕ). Trail N (numbered x.scene.answers.size x.start) i reaches.way x.goal) (sym few)
+            reaches.trail)
+
+        pub trailed : Trailed N b x.goal m
+        trailed = record {
+          way = reaches.way;
+          trail = found_trail;
+          short = subst (λ (i : ℕ). count reaches.way ≤ i) (sym few)
+              (short (asked x) x.start (Fit x) _ (sane x.costs l x.scene bd x.start q.start) reaches.way (resting p)
+              reaches.leg);
+        }
+
+        pub told : {K : Type 0} (g : K → V) (ls : List (Label K)) (a : Told K) → a.first ≤ a.end → a.end ≤ length ls
+            → Traces N b x.goal m (held ls a.first a.end) → g a.cost ≡ (N x.goal).cost
+            → Tells x.costs g x.scene x.start p ls a
+        told g ls a i j tr e = tells x.costs l x.scene bd x.start q.start g ls a p reaches.way reaches.leg i j
+            (tr.traces reaches.way found_trail) (e ∙ sym reaches.cost)

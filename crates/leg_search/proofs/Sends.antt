@@ -1,5 +1,5 @@
 -- The bytes of the first motions of some labels: one motion more adds its bytes, and more motions never have fewer.
-use Rattle.std.proofs.Common.{◌≡◌, ◌∙◌, ℕ, ◌+◌, ◌<◌, ◌≤◌, List, [], ◌∷◌, ◌++◌, Option, length, get_or, map, take, drop, fold, option_and_then, refl, sym, ap, subst, arith}
+use Rattle.std.proofs.Common.{◌≡◌, ◌∙◌, ℕ, ◌+◌, ◌<◌, ◌≤◌, List, [], ◌∷◌, ◌++◌, Option, length, get_or, map, take, drop, fold, option_and_then, sym, ap, subst, arith}
 use Rattle.std.proofs.lemmas.List.{length-append, map-append, take-append-drop, take_more}
 use Rattle.std.proofs.Math.Seq.{take-append_seam}
 use Rattle.std.proofs.lemmas.Slice.{drop-append-drop}
@@ -10,7 +10,7 @@ use Rattle.labels.specs.Label.{step_of}
 use Rattle.labels.specs.declared.label.Label.{Label}
 use Rattle.legs.specs.Graph.{ends}
 use Rattle.legs.specs.Scene.{Scene, motion_sent, sent, steps}
-use Rattle.legs.specs.Sequence.{Sequence, listed, none, sequence, then}
+use Rattle.legs.specs.Sequence.{Sequence, none, sequence, then}
 
 -- the sequence of the first i labels' motions
 abbrev pub first : {K : Type 0} → List (Label K) → ℕ → Sequence

@@ -17,12 +17,6 @@ improves f c ls i j l x v n r d h e u =
     (u ∙ ap (λ (y : Note _). improved c y v n r) (ap (note f) (sym e) ∙ sym (noted_at f c.zero ls i l h e)))
     (noted_set f c.zero ls i x h))
 
-pub updated_as : {V : Type 0} (c : Costs V) (N M : ℕ → Note V) (i j : ℕ) (v w : V) (n r : ℕ) → i ≡ j → v ≡ w
-    → Updated N M i (improved c (N i) v n r) → Updated N M j (improved c (N j) w n r)
-updated_as {V} c N M i j v w n r e h u =
-    subst (λ (x : ℕ). Updated N M x (improved c (N x) w n r)) e
-    (subst (λ (y : V). Updated N M i (improved c (N i) y n r)) h u)
-
 pub settles : {K V : Type 0} (f : K → V) (v : V) (ls : List (Label K)) (i : ℕ) (l x : Label K)
     → i < length ls → l ≡ get_or ls i l → note f x ≡ settled (note f (get_or ls i l))
     → Updated (noted f v ls) (noted f v (set ls i x)) i (settled (noted f v ls i))

@@ -5,7 +5,7 @@
 --     Searched o              nothing is amiss, and o is the answer
 --     Finds r                 r is the one or the other: too few labels are refused first, then a place that is
 --                             not on the panel
-use Rattle.std.specs.Prelude.{◌≡◌, ◌⊎◌, ℕ, ◌*◌, ◌<◌, ◌≤◌, List, Option, Result, Ok, Err, length}
+use Rattle.std.specs.Prelude.{◌≡◌, ◌⊎◌, ℕ, ◌*◌, ◌<◌, List, Option, Result, Ok, Err, length}
 use Rattle.cost.specs.Costs.{Costs}
 use Rattle.display.specs.Place.{On}
 use Rattle.display.specs.declared.place.Cursor.{Cursor}

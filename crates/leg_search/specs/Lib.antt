@@ -1,8 +1,13 @@
 pub mod Answer
+pub mod AtOnce
+pub mod Due
 pub mod Find
 pub mod Memory
-pub mod Numbers
-pub mod Rows
-pub mod Scan
+pub mod Noting
+pub mod Reach
+pub mod Reading
+pub mod Run
 pub mod Sending
+pub mod Take
+pub mod Task
 pub mod Turn

@@ -1,5 +1,5 @@
 -- The memory of a search.
---     Prepared c N m b      the beginning b is settled at no cost, and no other state up to the number m is reached
+--     Prepared c N b        the beginning b is settled at no cost, and no other state is reached
 --     held_labels ls i e, held ls i e
 --                           the labels from i to below e, and the motions that they hold
 --     HoldsMore ls xs i n   the labels xs hold the motion n before those that ls hold from i + 1 on
@@ -19,10 +19,10 @@ use Rattle.labels.specs.declared.label.Label.{Label}
 use Rattle.labels.specs.declared.label.Stage.TheVariants.{Unreached, Settled}
 use Rattle.legs.specs.Sequence.{Sequence, count, listed}
 
-pub record Prepared {V : Type 0} (c : Costs V) (N : ℕ → Note V) (m b : ℕ) : Type 0 where
+pub record Prepared {V : Type 0} (c : Costs V) (N : ℕ → Note V) (b : ℕ) : Type 0 where
   pub settled : (N b).stage ≡ Settled
   pub cost : (N b).cost ≡ c.zero
-  pub others : (j : ℕ) → j ≤ m → j ≢ b → (N j).stage ≡ Unreached
+  pub others : (j : ℕ) → j ≢ b → (N j).stage ≡ Unreached
 
 abbrev pub held_labels : {K : Type 0} → List (Label K) → ℕ → ℕ → List (Label K)
 held_labels ls i e = drop i (take e ls)

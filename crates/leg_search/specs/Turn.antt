@@ -1,44 +1,34 @@
--- One turn of a search: the cheapest reached state is settled, and its motions are taken.
---     NoneReached N i e     none of the states with the numbers from i to below e is reached
---     Cheapest c N i e n    n is one of them that is reached, and none that is costs less
---     Best c N i e o        o is the cheapest of them, if any is reached
---     Searching c s N t     a search has come to the notes N with nothing due, and the goal t is not settled
---     Turns c s N M t       whatever the cursor from which the search set out, it goes from the notes N to M, with
---                           nothing due
---     Ran c N m t b         b says that the goal t is the cheapest reached state below m, or that none is reached
-use Rattle.std.specs.Prelude.{◌≡◌, ◌≢◌, ℕ, ◌<◌, ◌≤◌, Bool, true, false, Some, None, Option}
-use Rattle.cost.specs.Costs.{Costs}
-use Rattle.display.specs.Place.{On}
+-- One turn of a search: the class that is due first is taken from the states of one cost.
+--     Rests z n u           the cursor u rests, unheld, on the place with the number n of a panel of size z
+--     Settles N M n         the state n is settled by M if it was reached, and else M tells the same as N
+--     Turned x r s v d      it is the turn of v still, once r has become s and the class d may be due later
+--     remaining m w         how many places of a line of at most m + 1 the classes have not been taken from, all together
+use Rattle.std.specs.Prelude.{◌≡◌, ◌≢◌, ℕ, ◌+◌, ◌-◌, false}
+use Rattle.std.specs.List.{sum_by}
+use Rattle.display.specs.Place.{On, number}
 use Rattle.display.specs.declared.place.Cursor.{Cursor}
-use Rattle.labels.specs.Frontier.{Frontier, NoneDue}
-use Rattle.labels.specs.Note.{Note}
-use Rattle.labels.specs.declared.label.Stage.TheVariants.{Reached, Settled}
-use Rattle.legs.specs.Sane.{Node}
-use Rattle.legs.specs.Scene.{Scene, graph}
+use Rattle.display.specs.declared.size.Size.{Size}
+use Rattle.labels.specs.Note.{Note, Updated, settled}
+use Rattle.labels.specs.declared.label.Stage.TheVariants.{Reached}
+use Rattle.leg_search.specs.Noting.{Grown}
+use Rattle.leg_search.specs.Reach.{Reach}
+use Rattle.leg_search.specs.Take.{InTurn}
+use Rattle.leg_search.specs.Task.{Task}
+use Rattle.leg_search.specs.declared.front.Front.{Front}
 
-pub record NoneReached {V : Type 0} (N : ℕ → Note V) (i e : ℕ) : Type 0 where
-  pub none : (j : ℕ) → i ≤ j → j < e → (N j).stage ≡ Reached → ⊥
+pub record Rests (z : Size) (n : ℕ) (u : Cursor) : Type 0 where
+  pub on : On z u.place
+  pub free : u.held ≡ false
+  pub is : number z u.place ≡ n
 
-pub record Cheapest {V : Type 0} (c : Costs V) (N : ℕ → Note V) (i e n : ℕ) : Type 0 where
-  pub from : i ≤ n
-  pub below : n < e
-  pub reached : (N n).stage ≡ Reached
-  pub least : (j : ℕ) → i ≤ j → j < e → (N j).stage ≡ Reached → c.at_most (N n).cost (N j).cost ≡ true
+pub data Settles {V : Type 0} (N M : ℕ → Note V) (n : ℕ) : Type 0 where
+  was : (N n).stage ≢ Reached → M ≡ N → Settles N M n
+  turned : (N n).stage ≡ Reached → Updated N M n (settled (N n)) → Settles N M n
 
-abbrev pub Best : {V : Type 0} → Costs V → (ℕ → Note V) → ℕ → ℕ → Option ℕ → Type 0
-Best c N i e None = NoneReached N i e
-Best c N i e (Some n) = Cheapest c N i e n
+pub record Turned {V : Type 0} (x : Task V) (r s : Reach V) (v : V) (d : ℕ) : Type 0 where
+  pub in_turn : InTurn x s v
+  pub grown : Grown r s
+  pub others : (c : ℕ) → c ≢ d → s.next c ≡ r.next c
 
-pub record Searching {V : Type 0} (c : Costs V) (s : Scene) (N : ℕ → Note V) (t : ℕ) : Type 0 where
-  pub start : Cursor
-  pub on : On s.answers.size start.place
-  pub frontier : Frontier (graph c s) start (Node s.answers start) N t NoneDue
-  pub goal : (N t).stage ≢ Settled
-
-pub record Turns {V : Type 0} (c : Costs V) (s : Scene) (N M : ℕ → Note V) (t : ℕ) : Type 0 where
-  pub frontier : (k : Cursor) → On s.answers.size k.place
-      → Frontier (graph c s) k (Node s.answers k) N t NoneDue → Frontier (graph c s) k (Node s.answers k) M t NoneDue
-
-abbrev pub Ran : {V : Type 0} → Costs V → (ℕ → Note V) → ℕ → ℕ → Bool → Type 0
-Ran c N m t true = Cheapest c N 0 m t
-Ran c N m t false = NoneReached N 0 m
+unfoldable pub remaining : ℕ → Front → ℕ
+remaining m w = sum_by (λ n. m + 1 - n) w.next

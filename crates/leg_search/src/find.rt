@@ -6,6 +6,7 @@ ghost use Rattle.legs.specs.Scene.{scene_of};
 
 use crate::leg::{Leg, Refusal};
 use crate::search::search;
+use crate::task::Task;
 use cost::cost::Cost;
 use display::cell::Cell;
 use display::place::{Cursor, Place};
@@ -66,6 +67,11 @@ pub fn find<P: Panel, C: Cell, K: Cost>(
     if let Some(place) = astray(size, start, goal) {
         return Err(Refusal::Outside { place });
     }
-    let scene = Scene { panel, glass, pen };
-    Ok(search(&scene, charted.offers(), start, goal, labels))
+    let task = Task {
+        scene: Scene { panel, glass, pen },
+        classes: charted.classes(),
+        start,
+        goal: size.number(goal),
+    };
+    Ok(search(&task, goal, &mut labels[..size.places() + 1]))
 }

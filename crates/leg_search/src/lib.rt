@@ -2,13 +2,16 @@
 // sequence of motions leads to the goal.
 #![tactic(auto)]
 
+mod at_once;
+mod due;
 pub mod find;
-mod frontier;
+mod front;
 pub mod leg;
 mod memory;
-mod rows;
+mod notes;
 mod run;
-mod scan;
 mod search;
 pub mod sending;
+mod take;
+mod task;
 mod turn;

@@ -6,14 +6,13 @@ ghost use Rattle.leg_search.specs.Memory.{HoldsMore, Prepared, Traces, Trailed, 
 use cost::cost::Cost;
 use labels::label::Label;
 
-// Makes the labels of the states ready for a search from one of them. There is a state for each place, and one for a
-// held start.
-pub(crate) fn prepare<K: Cost>(labels: &mut [Label<K>], places: usize, beginning: usize)
-    requires memory { places < length labels.old }
-    requires beginning { beginning ≤ places }
-    ensures { Prepared K.costs (noted K.value K.costs.zero labels.new) places beginning }
+// Makes the labels ready for a search from one of their states.
+pub(crate) fn prepare<K: Cost>(labels: &mut [Label<K>], beginning: usize)
+    requires { beginning < length labels.old }
+    ensures same { length labels.new ≡ length labels.old }
+    ensures ready { Prepared K.costs (noted K.value K.costs.zero labels.new) beginning }
 {
-    for state in 0..places + 1 {
+    for state in 0..labels.len() {
         labels[state] = Label::unreached();
     }
     labels[beginning] = Label::beginning();

@@ -1,50 +1,73 @@
-// The turns of a search, until the goal is the cheapest state that is reached, or none is reached any more.
-ghost use Rattle.std.specs.Prelude.{◌≡◌, ◌≢◌, ◌*◌, ◌<◌, length};
+// The turns of a search, until nothing is due, all that is due comes to more than the goal is known to cost, or too many
+// turns have been taken.
+ghost use Rattle.std.specs.Prelude.{◌≡◌, ◌≢◌, ◌+◌, ◌<◌, Decides, length, true};
 ghost use Rattle.labels.specs.Label.{noted};
-ghost use Rattle.labels.specs.declared.label.Stage.TheVariants.{Settled};
-ghost use Rattle.leg_search.specs.Rows.{Kept};
-ghost use Rattle.leg_search.specs.Turn.{Ran, Searching, Turns};
-ghost use Rattle.legs.specs.Seen.{scened};
-ghost use Rattle.motion_order.specs.InOrder.{InOrder};
+ghost use Rattle.leg_search.specs.Memory.{Prepared};
+ghost use Rattle.leg_search.specs.Reading.{reach_of, task_of};
+ghost use Rattle.leg_search.specs.Run.{Ends};
+ghost use Rattle.leg_search.specs.Task.{Asks, places};
+ghost use Rattle.legs.specs.Scene.{numbered};
 
-use crate::rows::Rows;
+use crate::due::next_due;
+use crate::front::Front;
+use crate::notes::is_beyond;
+use crate::task::Task;
 use crate::turn::turn;
 use cost::cost::Cost;
 use display::cell::Cell;
+use due_queue::queue::Queue;
 use labels::label::Label;
-use legs::scene::Scene;
-use motion_order::offer::Offer;
 use panel::panel::Panel;
 
-// Settles one state after another, the cheapest first, and answers whether the goal's turn came.
-pub(crate) fn run<P: Panel, C: Cell, K: Cost>(
-    scene: &Scene<P, C>,
-    offers: &[Offer],
-    labels: &mut [Label<K>],
-    rows: &mut Rows,
-    goal: usize,
-) -> bool
-    requires order { InOrder K.costs (P.answers scene.now.panel.now) offers.now }
-    requires searching { Searching K.costs (scened P.answers C.glyph scene.now)
-        (noted K.value K.costs.zero labels.old) goal }
-    requires goal_in { goal < (P.answers scene.now.panel.now).size.rows * (P.answers scene.now.panel.now).size.columns }
-    requires memory { (P.answers scene.now.panel.now).size.rows * (P.answers scene.now.panel.now).size.columns
-        < length labels.old }
-    requires kept { Kept K.costs (noted K.value K.costs.zero labels.old) (P.answers scene.now.panel.now).size rows.old }
-    ensures waits { (noted K.value K.costs.zero labels.new goal).stage ≢ Settled }
-    ensures turns { Turns K.costs (scened P.answers C.glyph scene.now) (noted K.value K.costs.zero labels.old)
-        (noted K.value K.costs.zero labels.new) goal }
-    ensures ran { Ran K.costs (noted K.value K.costs.zero labels.new)
-        ((P.answers scene.now.panel.now).size.rows * (P.answers scene.now.panel.now).size.columns) goal result }
+// The turns after which a search is given up. No leg that was tried on the deferred-wrap panel took five hundred; a panel
+// with many costs could ask for millions.
+const MOST_TURNS: u16 = 49_152;
+
+// The turns that any search has.
+const FEW_TURNS: u16 = 1_024;
+
+// As many motions take the time of a turn, where all of a state are taken at once.
+const MOTIONS_OF_A_TURN: usize = 32;
+
+// Whether so many turns take more time than it would to take all motions of the states in the line at once.
+fn are_too_many(turns: u16, states: usize, classes: usize) -> bool
+    ensures { result ≡ true → 1024 < turns }
 {
-    while let Some(state) = rows.cheapest(labels) {
-        let state = usize::from(state);
-        if state == goal {
+    turns > FEW_TURNS
+        && usize::from(turns - FEW_TURNS) / states.max(1) > classes / MOTIONS_OF_A_TURN
+}
+
+// Takes one class after another, the one that is due first, from a state that is settled and stands in the line alone.
+// Answers whether the search has come to its end.
+pub(crate) fn run<P: Panel, C: Cell, K: Cost>(
+    task: &Task<P, C>,
+    labels: &mut [Label<K>],
+    beginning: u16,
+) -> bool
+    requires asks { Asks (task_of P.answers C.glyph K.costs task.now) }
+    requires memory { length labels.old ≡ places (task_of P.answers C.glyph K.costs task.now) + 1 }
+    requires beginning { beginning ≡ numbered (P.answers task.now.scene.panel.now).size task.now.start }
+    requires apart { beginning ≢ task.now.goal }
+    requires prepared { Prepared K.costs (noted K.value K.costs.zero labels.old) beginning }
+    ensures same { length labels.new ≡ length labels.old }
+    ensures ends { result ≡ true
+        → Ends (task_of P.answers C.glyph K.costs task.now) (noted K.value K.costs.zero labels.new) }
+{
+    let mut front = Front::new();
+    front.append(labels, beginning);
+    let mut queue = Queue::new(task.classes.count());
+    let mut seen = 0;
+    let mut turns = 0;
+    while let Some(due) = next_due(task, &front, labels, &mut queue, seen < front.count) {
+        if is_beyond(labels, task.goal, due.cost) {
             return true;
         }
-        if let Some(place) = rows.size.place_at(state) {
-            turn(scene, offers, labels, rows, place, goal);
+        if turns == MOST_TURNS || are_too_many(turns, front.count, task.classes.count()) {
+            return false;
         }
+        turns += 1;
+        seen = front.count;
+        turn(task, &mut front, labels, due);
     }
-    false
+    true
 }

@@ -1,89 +1,89 @@
 // A search for the leg from a cursor to a place.
-ghost use Rattle.std.specs.Prelude.{◌*◌, ◌<◌, length};
-ghost use Rattle.display.specs.Place.{On};
+ghost use Rattle.std.specs.Prelude.{◌≡◌, ◌≢◌, ◌+◌, ◌*◌, ◌<◌, length};
+ghost use Rattle.display.specs.Place.{On, number};
+ghost use Rattle.labels.specs.Label.{noted};
 ghost use Rattle.leg_search.specs.Answer.{Answered};
-ghost use Rattle.leg_search.specs.Numbers.{Numbers};
+ghost use Rattle.leg_search.specs.Reading.{task_of};
+ghost use Rattle.leg_search.specs.Run.{Ends};
+ghost use Rattle.leg_search.specs.Task.{Asks, places};
+ghost use Rattle.legs.specs.Scene.{numbered};
 ghost use Rattle.legs.specs.Seen.{scened};
-ghost use Rattle.motion_order.specs.InOrder.{InOrder};
 
+use crate::at_once::run_at_once;
 use crate::leg::Leg;
 use crate::memory::{prepare, trace};
-use crate::rows::Rows;
+use crate::notes::{cost_of, is_reached};
 use crate::run::run;
-use crate::scan::{Departure, scan};
+use crate::task::Task;
 use cost::cost::Cost;
 use display::cell::Cell;
 use display::place::{Cursor, Place};
 use display::size::Size;
 use labels::label::Label;
-use legs::scene::Scene;
-use motion_order::offer::Offer;
 use panel::panel::Panel;
 
-// The numbers that a search goes by: how many places there are, and the states at which it begins and ends. A held
-// start has the number after those of the places.
-#[derive(Clone, Copy)]
-struct States {
-    places: usize,
-    beginning: usize,
-    goal: usize,
-}
-
-fn number_states(size: Size, start: Cursor, goal: Place) -> States
-    requires start { On size start.place }
-    requires goal { On size goal }
-    ensures { Numbers size start goal result.places result.beginning result.goal }
+// The number of a cursor's state: that of its place. A held one has the number after those of the places.
+fn state_of(size: Size, cursor: Cursor) -> usize
+    ensures { result ≡ numbered size cursor }
 {
-    let places = size.places();
-    States {
-        places,
-        beginning: if start.held {
-            places
-        } else {
-            size.number(start.place)
-        },
-        goal: size.number(goal),
+    if cursor.held {
+        size.places()
+    } else {
+        size.number(cursor.place)
     }
 }
 
-// The leg from a cursor to a place, if any sequence leads there.
+// Takes classes of motions as they fall due; where that takes too many turns, begins anew, and takes all motions of a
+// state at once.
+fn explore<P: Panel, C: Cell, K: Cost>(task: &Task<P, C>, labels: &mut [Label<K>], beginning: u16)
+    requires asks { Asks (task_of P.answers C.glyph K.costs task.now) }
+    requires memory { length labels.old ≡ places (task_of P.answers C.glyph K.costs task.now) + 1 }
+    requires beginning { beginning ≡ numbered (P.answers task.now.scene.panel.now).size task.now.start }
+    requires within { beginning < length labels.old }
+    requires apart { beginning ≢ task.now.goal }
+    ensures same { length labels.new ≡ length labels.old }
+    ensures ends { Ends (task_of P.answers C.glyph K.costs task.now) (noted K.value K.costs.zero labels.new) }
+{
+    prepare(labels, usize::from(beginning));
+    if run(task, labels, beginning) {
+        return;
+    }
+    prepare(labels, usize::from(beginning));
+    run_at_once(task, labels, beginning);
+}
+
+// The leg to a place, whose number the task has, if any sequence leads there. There is a label for each place, and one
+// more.
 pub(crate) fn search<P: Panel, C: Cell, K: Cost>(
-    scene: &Scene<P, C>,
-    offers: &[Offer],
-    start: Cursor,
+    task: &Task<P, C>,
     goal: Place,
     labels: &mut [Label<K>],
 ) -> Option<Leg<K>>
-    requires order { InOrder K.costs (P.answers scene.now.panel.now) offers.now }
-    requires start { On (P.answers scene.now.panel.now).size start.place }
-    requires goal { On (P.answers scene.now.panel.now).size goal }
-    requires memory { (P.answers scene.now.panel.now).size.rows * (P.answers scene.now.panel.now).size.columns
-        < length labels.old }
-    ensures { Answered K.costs K.value (scened P.answers C.glyph scene.now) start goal labels.new result }
+    requires asks { Asks (task_of P.answers C.glyph K.costs task.now) }
+    requires goal { On (P.answers task.now.scene.panel.now).size goal }
+    requires number { task.now.goal ≡ number (P.answers task.now.scene.panel.now).size goal }
+    requires memory { length labels.old ≡ places (task_of P.answers C.glyph K.costs task.now) + 1 }
+    ensures same { length labels.new ≡ length labels.old }
+    ensures answered { Answered K.costs K.value (scened P.answers C.glyph task.now.scene) task.now.start goal labels.new
+        result }
 {
-    let size = scene.panel.size();
-    let states = number_states(size, start, goal);
-    prepare(labels, states.places, states.beginning);
-    if states.beginning == states.goal {
+    let size = task.scene.panel.size();
+    let places = size.places();
+    let beginning = state_of(size, task.start);
+    if beginning == task.goal {
         return Some(Leg {
             cost: K::zero(),
-            first: states.places,
-            end: states.places,
+            first: places,
+            end: places,
         });
     }
-    let departure = Departure {
-        cursor: start,
-        number: states.beginning as u16,
-        cost: K::zero(),
-    };
-    let mut rows = Rows::unreached(size);
-    scan(scene, offers, labels, &mut rows, departure, states.goal);
-    if !run(scene, offers, labels, &mut rows, states.goal) {
+    explore(task, labels, beginning as u16);
+    if !is_reached(labels, task.goal) {
         return None;
     }
     Some(Leg {
-        cost: labels[states.goal].cost(),
-        first: trace(labels, states.goal, states.beginning, states.places),
-        end: states.places,
+        cost: cost_of(labels, task.goal),
+        first: trace(labels, task.goal, beginning, places),
+        end: places,
     })
 }

@@ -16,7 +16,7 @@ use panel::bytes::ShortBytes;
 use panel::panel::Panel;
 
 // The bytes of a motion from where the ones before it have led, and none where they have led nowhere.
-fn motion_bytes<P: Panel, C: Cell>(
+pub fn motion_bytes<P: Panel, C: Cell>(
     scene: &Scene<P, C>,
     cursor: Option<Cursor>,
     motion: u16,
@@ -30,7 +30,7 @@ fn motion_bytes<P: Panel, C: Cell>(
 }
 
 // Where a motion leads from where the ones before it have led.
-fn next<P: Panel, C: Cell>(
+pub fn next_cursor<P: Panel, C: Cell>(
     scene: &Scene<P, C>,
     cursor: Option<Cursor>,
     motion: u16,
@@ -41,7 +41,7 @@ fn next<P: Panel, C: Cell>(
 }
 
 // How many bytes a leg has, if they are not more than there is room for.
-pub fn length_within<P: Panel, C: Cell, K: Cost>(
+fn length_within<P: Panel, C: Cell, K: Cost>(
     scene: &Scene<P, C>,
     start: Cursor,
     leg: &[Label<K>],
@@ -59,7 +59,7 @@ pub fn length_within<P: Panel, C: Cell, K: Cost>(
             return None;
         }
         count += length;
-        cursor = next(scene, cursor, motion);
+        cursor = next_cursor(scene, cursor, motion);
     }
     Some(count)
 }
@@ -93,7 +93,7 @@ pub fn write_leg<P: Panel, C: Cell, K: Cost>(
         let motion = label.step();
         let bytes = motion_bytes(scene, cursor, motion);
         count = lay(output, count, bytes.as_slice());
-        cursor = next(scene, cursor, motion);
+        cursor = next_cursor(scene, cursor, motion);
     }
     Some(count)
 }

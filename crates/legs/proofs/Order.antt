@@ -17,11 +17,3 @@ module _ {V : Type 0} {c : Costs V} (l : CostLaws c) where
       by_cases : (t : Bool) → c.at_most d a ≡ t → c.at_most d a ≡ false
       by_cases false e = e
       by_cases true e = let f = l.transitive b d a k e in cc
-
-  -- a is at most b, and b below d
-  pub at_most_below : (a b d : V) → c.at_most a b ≡ true → c.at_most d b ≡ false → c.at_most d a ≡ false
-  at_most_below a b d h k = by_cases (c.at_most d a) refl
-    where
-      by_cases : (t : Bool) → c.at_most d a ≡ t → c.at_most d a ≡ false
-      by_cases false e = e
-      by_cases true e = let f = l.transitive d a b e h in cc

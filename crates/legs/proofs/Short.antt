@@ -130,3 +130,23 @@ module _ {A V : Type 0} (g : Graph A V) (k : A) (ok : A → Type 0) (m : ℕ) (s
       by_cases : (x : ℕ) → (eqb x q || list_any (eqb x) (visited g k w)) ≡ true → (b : Bool) → eqb x q ≡ b → x < m
       by_cases x e true f = subst (λ (y : ℕ). y < m) (sym (eqb-true x q f)) i
       by_cases x e false f = below w u l x (sym (ap (λ (b : Bool). b || list_any (eqb x) (visited g k w)) f) ∙ e)
+
+  -- and one that comes to neither of two leaves two
+  pub shorter_by_two : (w : Sequence) (u : A) → Leg g k w u → (q r : ℕ) → q < m → r < m → eqb q r ≡ false
+      → list_any (eqb q) (visited g k w) ≡ false → list_any (eqb r) (visited g k w) ≡ false → count w + 2 ≤ m
+  shorter_by_two w u l q r i j ne h e =
+      let a = length-le_from_distinct_below (q ∷ r ∷ visited g k w) m
+      (IsDistinct-cons eqb q (r ∷ visited g k w) (ne, all_apart q (visited g k w) h)
+      (IsDistinct-cons eqb r (visited g k w) (all_apart r (visited g k w) e) (distinct w u l)))
+      (λ x f. by_cases x f (eqb x q) refl) in
+      let b = visited_count g k w in omega arith
+    where
+      next_case : (x : ℕ) → (eqb x r || list_any (eqb x) (visited g k w)) ≡ true → (b : Bool) → eqb x r ≡ b → x < m
+      next_case x f true p = subst (λ (y : ℕ). y < m) (sym (eqb-true x r p)) j
+      next_case x f false p = below w u l x (sym (ap (λ (b : Bool). b || list_any (eqb x) (visited g k w)) p) ∙ f)
+
+      by_cases : (x : ℕ) → (eqb x q || (eqb x r || list_any (eqb x) (visited g k w))) ≡ true
+          → (b : Bool) → eqb x q ≡ b → x < m
+      by_cases x f true p = subst (λ (y : ℕ). y < m) (sym (eqb-true x q p)) i
+      by_cases x f false p = next_case x
+          (sym (ap (λ (b : Bool). b || (eqb x r || list_any (eqb x) (visited g k w))) p) ∙ f) (eqb x r) refl

@@ -30,7 +30,8 @@ impl<'a, P: Panel, C: Cell> Scene<'a, P, C> {
     }
 
     // Where a motion lands from a cursor, or nothing where it is not offered. The retype has the number after the
-    // panel's own motions.
+    // panel's own motions. A search asks this of each motion, so it is written into it and not called.
+    #[inline(always)]
     pub fn landing(&self, motion: u16, cursor: Cursor) -> Option<Place>
         ensures { result ≡ lands (scened P.answers C.glyph self.now) motion cursor }
     {

@@ -1,2 +1,4 @@
+pub mod Classing
 pub mod Gathering
+pub mod Marking
 pub mod Sorting

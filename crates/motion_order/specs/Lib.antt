@@ -1,2 +1,5 @@
+pub mod Classes
+pub mod Ends
 pub mod Gathered
+pub mod InClasses
 pub mod InOrder

@@ -1,8 +1,10 @@
 // A panel together with the order of its motions.
 ghost use Rattle.std.specs.Prelude.{◌≡◌};
-ghost use Rattle.motion_order.specs.InOrder.{InOrder};
+ghost use Rattle.motion_order.specs.Classes.{class_of, count_of};
+ghost use Rattle.motion_order.specs.InClasses.{InClasses};
 
-use crate::offer::Offer;
+use crate::classes::Classes;
+use crate::ends::{Ends, mark_ends};
 use crate::order::MotionOrder;
 use cost::cost::Cost;
 use panel::panel::Panel;
@@ -14,16 +16,19 @@ use std::marker::Model;
 pub struct Charted<P: Panel, K: Cost> {
     panel: P,
     order: MotionOrder<K>,
+    ends: Ends,
 }
 
 impl<P: Panel, K: Cost> Model for Charted<P, K> {
-    ghost use Rattle.motion_order.specs.InOrder.{InOrder};
+    ghost use Rattle.std.specs.Prelude.{length};
+    ghost use Rattle.motion_order.specs.Ends.{class_at};
+    ghost use Rattle.motion_order.specs.InClasses.{InClasses};
 
     ghost Value = { P };
 
     ghost view = { λ c. c.panel };
 
-    ghost invariant = { λ c. InOrder K.costs (P.answers c.panel) c.order };
+    ghost invariant = { λ c. InClasses K.costs (P.answers c.panel) (length c.ends) (class_at c.order c.ends) };
 }
 
 impl<P: Panel, K: Cost> Charted<P, K> {
@@ -32,7 +37,8 @@ impl<P: Panel, K: Cost> Charted<P, K> {
         ensures { result ≡ panel }
     {
         let order = MotionOrder::new(&panel);
-        Charted { panel, order }
+        let ends = mark_ends::<K>(order.offers());
+        Charted { panel, order, ends }
     }
 
     pub fn panel(&self) -> &P
@@ -41,11 +47,14 @@ impl<P: Panel, K: Cost> Charted<P, K> {
         &self.panel
     }
 
-    // The panel's motions and its retype, the cheapest first.
-    pub fn offers(&self) -> &[Offer]
-        ensures { InOrder K.costs (P.answers self.now) result.now }
+    // The panel's motions and its retype in classes of one cost.
+    pub fn classes(&self) -> Classes<'_>
+        ensures { InClasses K.costs (P.answers self.now) (count_of result) (class_of result) }
     {
-        self.order.offers()
+        Classes {
+            offers: self.order.offers(),
+            ends: self.ends.as_slice(),
+        }
     }
 
     // Feeds a byte to the panel.

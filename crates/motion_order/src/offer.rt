@@ -1,9 +1,12 @@
 // A motion, and what its cost is reckoned from.
 ghost use Rattle.std.specs.Prelude.{◌≡◌, ◌<◌};
-ghost use Rattle.motion_order.specs.InOrder.{Told, weighed};
+ghost use Rattle.motion_order.specs.InOrder.{Told, dearer, weighed};
 
 use cost::cost::Cost;
 use panel::panel::Panel;
+
+// Every motion of the largest panel, and the retype.
+pub const MOST_OFFERS: usize = 4097;
 
 // The retype is counted as a motion here. Its number is the one after the last motion of the panel, which the panel
 // does not offer.
@@ -45,5 +48,13 @@ impl Offer {
         ensures { K.value result ≡ weighed K.costs self.now }
     {
         K::of_motion(self.bytes, self.milliseconds)
+    }
+
+    // Whether this motion costs more than another.
+    pub(crate) fn is_dearer<K: Cost>(&self, other: &Offer) -> bool
+        ensures { result ≡ dearer K.costs other.now self.now }
+    {
+        let cost: K = self.cost();
+        !cost.at_most(other.cost())
     }
 }

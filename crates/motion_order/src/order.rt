@@ -1,22 +1,19 @@
-// A panel's motions and its retype, the cheapest first.
-ghost use Rattle.std.specs.Prelude.{◌≡◌, ◌+◌, ◌<◌, [], ◌∷◌, ◌++◌, length, IsPermutation};
-ghost use Rattle.motion_order.specs.Gathered.{Gathered, ranked};
-ghost use Rattle.motion_order.specs.InOrder.{CheapestFirst, InOrder};
+// A panel's motions and its retype, the cheapest first, and those of one cost by their numbers.
+ghost use Rattle.std.specs.Prelude.{◌≡◌, ◌+◌, ◌<◌, ◌≤◌, [], ◌∷◌, ◌++◌, length, IsPermutation};
+ghost use Rattle.motion_order.specs.Gathered.{Gathered, Sorted, ranked};
+ghost use Rattle.motion_order.specs.InOrder.{InOrder};
 
-use crate::offer::Offer;
+use crate::offer::{MOST_OFFERS, Offer};
 use cost::cost::Cost;
 use panel::panel::Panel;
 use std::cmp::Ordering;
 use std::marker::{Model, PhantomData};
 
-// Every motion of the largest panel, and the retype.
-const MOST: usize = 4097;
-
 // Contracts see the offers. An array and a count, since nothing is allocated once a model is made. The parameter keeps
 // an order by one cost from being taken for one by another.
 #[derive(Drop)]
 pub struct MotionOrder<K> {
-    entries: [Offer; MOST],
+    entries: [Offer; MOST_OFFERS],
     count: usize,
     cost: PhantomData<K>,
 }
@@ -24,17 +21,17 @@ pub struct MotionOrder<K> {
 impl<K> Model for MotionOrder<K> {
     ghost use Rattle.std.specs.Prelude.{List, ◌≤◌, take};
     ghost use Rattle.motion_order.specs.declared.offer.Offer.{Offer};
-    ghost use Rattle.motion_order.specs.declared.order.TheConstants.{MOST};
+    ghost use Rattle.motion_order.specs.declared.offer.TheConstants.{MOST_OFFERS};
 
     ghost Value = { List Offer };
 
     ghost view = { λ order. take order.count order.entries };
 
-    ghost invariant = { λ order. order.count ≤ MOST };
+    ghost invariant = { λ order. order.count ≤ MOST_OFFERS };
 }
 
 impl<K: Cost> MotionOrder<K> {
-    // All motions of the panel and its retype, the cheapest first.
+    // All motions of the panel and its retype, in order.
     pub fn new<P: Panel>(panel: &P) -> MotionOrder<K>
         ensures { InOrder K.costs (P.answers panel.now) result }
     {
@@ -44,7 +41,8 @@ impl<K: Cost> MotionOrder<K> {
     }
 
     pub fn offers(&self) -> &[Offer]
-        ensures { result.now ≡ self.now }
+        ensures same { result.now ≡ self.now }
+        ensures few { length result.now ≤ MOST_OFFERS }
     {
         &self.entries[..self.count]
     }
@@ -58,14 +56,14 @@ impl<K: Cost> MotionOrder<K> {
             bytes: 0,
         };
         MotionOrder {
-            entries: [none; MOST],
+            entries: [none; MOST_OFFERS],
             count: 0,
             cost: PhantomData,
         }
     }
 
     fn push(&mut self, offer: Offer)
-        requires { length self.old < MOST }
+        requires { length self.old < MOST_OFFERS }
         ensures { self.new ≡ self.old ++ offer ∷ [] }
     {
         self.entries[self.count] = offer;
@@ -88,16 +86,16 @@ impl<K: Cost> MotionOrder<K> {
 
     fn sort(&mut self)
         ensures same { IsPermutation self.old self.new }
-        ensures cheapest_first { CheapestFirst K.costs self.new }
+        ensures sorted { Sorted K.costs self.new }
     {
-        sort_by_cost::<K>(&mut self.entries[..self.count]);
+        sort_offers::<K>(&mut self.entries[..self.count]);
     }
 }
 
 // A closure: a generic function that is passed by its name gets no generated proof here.
-fn sort_by_cost<K: Cost>(offers: &mut [Offer])
+fn sort_offers<K: Cost>(offers: &mut [Offer])
     ensures same { IsPermutation offers.old offers.new }
-    ensures cheapest_first { CheapestFirst K.costs offers.new }
+    ensures sorted { Sorted K.costs offers.new }
 {
     offers.sort_unstable_by(|a, b| compared::<K>(a, b));
 }
@@ -105,13 +103,11 @@ fn sort_by_cost<K: Cost>(offers: &mut [Offer])
 fn compared<K: Cost>(a: &Offer, b: &Offer) -> Ordering
     ensures { result ≡ ranked K.costs a.now b.now }
 {
-    let first: K = a.cost();
-    let second: K = b.cost();
-    if !second.at_most(first) {
+    if b.is_dearer::<K>(a) {
         Ordering::Less
-    } else if !first.at_most(second) {
+    } else if a.is_dearer::<K>(b) {
         Ordering::Greater
     } else {
-        Ordering::Equal
+        a.motion.cmp(&b.motion)
     }
 }

@@ -10,12 +10,9 @@ use cost::cost::Cost;
 use display::cell::Cell;
 use display::place::Cursor;
 use labels::label::Label;
-use leg_search::sending::{length_within, write_leg};
+use leg_search::sending::{motion_bytes, next_cursor};
 use legs::scene::Scene;
 use panel::panel::Panel;
-
-// The most bytes that a leg has: sixteen for each of 1,920 motions.
-const MOST_LEG: usize = 30_720;
 
 // Lays bytes behind those that are counted, where the output has room for them, and counts them whether it has or not.
 pub(crate) fn pour(output: &mut [u8], count: usize, bytes: &[u8]) -> usize
@@ -43,13 +40,13 @@ pub(crate) fn pour_leg<P: Panel, C: Cell, K: Cost>(
     ensures { Pours (sent (scened P.answers C.glyph scene.now) start (sequence (map step_of steps.now))) output.old
         output.new count result }
 {
-    let length = match length_within(scene, start, steps, MOST_LEG) {
-        Some(length) => length,
-        None => unreachable!(),
-    };
-    if count <= output.len() {
-        // nothing is written where there is no room
-        let _written = write_leg(scene, start, steps, &mut output[count..]);
+    let mut cursor = Some(start);
+    let mut count = count;
+    for label in steps {
+        let motion = label.step();
+        let bytes = motion_bytes(scene, cursor, motion);
+        count = pour(output, count, bytes.as_slice());
+        cursor = next_cursor(scene, cursor, motion);
     }
-    count + length
+    count
 }

@@ -1,9 +1,8 @@
--- No cell before the present number has a cause.
-use Rattle.std.proofs.Common.{◌≡◌, map, ℕ, ◌<◌, None}
-use Rattle.faults.specs.Causes.{cell_cause}
+-- Every cell of the rows before the present one can be put.
+use Rattle.std.proofs.Common.{map, ℕ, ◌<◌}
+use Rattle.faults.specs.Rows.{GoodRow}
 use Rattle.faults.proofs.cells.first_fault.Given as goal
 
-abbrev pub invariant-loop-number : goal.invariant-loop-number
-invariant-loop-number g l =
-    (n : ℕ) → n < l.number
-    → cell_cause (g.P.Panel.answers l.panel) g.C.Cell.admits (map g.C.Cell.glyph l.picture) n ≡ None
+abbrev pub invariant-loop-row : goal.invariant-loop-row
+invariant-loop-row g l =
+    (r : ℕ) → r < l.row → GoodRow (g.P.Panel.answers l.panel) g.C.Cell.admits (map g.C.Cell.glyph l.picture) r

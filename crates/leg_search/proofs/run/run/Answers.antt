@@ -1,64 +1,64 @@
--- The cheapest of the rows is the cheapest of the panel, which has the size that the rows know.
-use Rattle.std.proofs.Common.{◌∙◌, ◌*◌, ℕ, ap, arith, subst, sym}
-use Rattle.display.specs.Place.{On, number}
-use Rattle.display.specs.declared.size.Size.{Size}
-use Rattle.labels.specs.Label.{noted}
-use Rattle.leg_search.specs.Turn.{Cheapest, NoneReached}
-use Rattle.leg_search.proofs.Keeping.{kept_own}
+-- Each turn is that of the class that is due first.
+use Rattle.std.proofs.Common.{◌∙◌, ℕ, arith, subst}
+use Rattle.due_queue.specs.Queue.{Fresh}
+use Rattle.leg_search.proofs.Runs.{ends_beyond, ends_over, in_turn, queued_fresh, queued_on, reckons, searching_begun, searching_on}
+use Rattle.leg_search.specs.Reading.{reach_of, task_of}
 use Rattle.leg_search.proofs.run.run.Goals as goal
 
-pub cheapest-requires-clause-kept : goal.cheapest-requires-clause-kept
-cheapest-requires-clause-kept g c = kept_own g.K.Cost.costs _ _ c.loop-state.rows c.loop-state.invariant.2
-
-pub cheapest-requires-clause-memory : goal.cheapest-requires-clause-memory
-cheapest-requires-clause-memory g c =
-    let e = ap (λ (z : Size). z.rows * z.columns) c.loop-state.invariant.2.size in omega arith
-
-pub returns-then-state-goal-clause-ran : goal.returns-then-state-goal-clause-ran
-returns-then-state-goal-clause-ran g c =
-    subst (λ (z : Size). Cheapest g.K.Cost.costs (noted g.K.Cost.value g.K.Cost.costs.zero c.loop-state.labels) 0
-    (z.rows * z.columns) c.args.goal) c.loop-state.invariant.2.size
-    (subst (λ (n : ℕ). Cheapest g.K.Cost.costs (noted g.K.Cost.value g.K.Cost.costs.zero c.loop-state.labels) 0
-    (c.loop-state.rows.size.rows * c.loop-state.rows.size.columns) n)
-    (sym c.from-state.ensures ∙ c.if-state-goal.true) c.in-Some.ensures)
-
-pub turn-requires-clause-searching : goal.turn-requires-clause-searching
-turn-requires-clause-searching g c = record {
-  start = c.requires.searching.start;
-  on = c.requires.searching.on;
-  frontier = c.loop-state.invariant.1.frontier c.requires.searching.start c.requires.searching.on
-      c.requires.searching.frontier;
-  goal = c.loop-state.invariant.0;
-}
-
-pub turn-requires-clause-on : goal.turn-requires-clause-on
-turn-requires-clause-on g c =
-    subst (λ (z : Size). On z c.in-Some-place_at.place) c.loop-state.invariant.2.size c.in-Some-place_at.ensures.on
-
-pub turn-requires-clause-cheapest : goal.turn-requires-clause-cheapest
-turn-requires-clause-cheapest g c =
-    subst (λ (z : Size). Cheapest g.K.Cost.costs (noted g.K.Cost.value g.K.Cost.costs.zero c.loop-state.labels) 0
-    (z.rows * z.columns) (number z c.in-Some-place_at.place)) c.loop-state.invariant.2.size
-    (subst (λ (n : ℕ). Cheapest g.K.Cost.costs (noted g.K.Cost.value g.K.Cost.costs.zero c.loop-state.labels) 0
-    (c.loop-state.rows.size.rows * c.loop-state.rows.size.columns) n)
-    (sym (c.in-Some-place_at.ensures.is ∙ c.from-state.ensures)) c.in-Some.ensures)
-
-pub turn-requires-clause-not_goal : goal.turn-requires-clause-not_goal
-turn-requires-clause-not_goal g c = λ h. c.if-state-goal.false
-    (sym c.in-Some-place_at.ensures.is
-    ∙ (ap (λ (z : Size). number z c.in-Some-place_at.place) c.loop-state.invariant.2.size ∙ h))
-
-pub turn-requires-clause-kept : goal.turn-requires-clause-kept
-turn-requires-clause-kept g c = c.loop-state.invariant.2
-
-pub loop-state-preserved-in-Some-place_at : goal.loop-state-preserved-in-Some-place_at
-loop-state-preserved-in-Some-place_at g c = (
-  c.turn.ensures.waits,
-  record { frontier = λ k on f. c.turn.ensures.turns.frontier k on (c.loop-state.invariant.1.frontier k on f) },
-  c.turn.ensures.kept,
+pub loop-due-init : goal.loop-due-init
+loop-due-init g c = (
+  c.append.ensures.same,
+  searching_begun (task_of g.P.Panel.answers g.C.Cell.glyph g.K.Cost.costs c.args.task.now) g.met.K.Cost.laws
+      (g.met.P.Panel.lawful c.args.task.now.scene.panel.now).bounded c.requires.asks
+      (reach_of g.K.Cost.value g.K.Cost.costs.zero c.args.labels.now c.new-front.result)
+      (reach_of g.K.Cost.value g.K.Cost.costs.zero c.append.new.labels c.append.new.self) c.args.beginning
+      c.append.ensures.appends c.new-front.ensures.count c.new-front.ensures.next c.requires.beginning c.requires.apart
+      c.requires.prepared,
+  queued_fresh (task_of g.P.Panel.answers g.C.Cell.glyph g.K.Cost.costs c.args.task.now) g.met.K.Cost.laws
+      (g.met.P.Panel.lawful c.args.task.now.scene.panel.now).bounded c.requires.asks
+      (reach_of g.K.Cost.value g.K.Cost.costs.zero c.append.new.labels c.append.new.self) c.new-queue.result
+      (subst (λ (n : ℕ). Fresh n c.new-queue.result) c.count.ensures c.new-queue.ensures)
+      (let e = c.append.ensures.appends.end in let h = c.new-front.ensures.count in omega arith),
+  omega arith,
 )
 
-pub returns-clause-ran : goal.returns-clause-ran
-returns-clause-ran g c =
-    subst (λ (z : Size). NoneReached (noted g.K.Cost.value g.K.Cost.costs.zero c.loop-state.labels) 0
-    (z.rows * z.columns)) c.loop-state.invariant.2.size c.in_default.ensures
+pub next_due-requires-clause-reckons : goal.next_due-requires-clause-reckons
+next_due-requires-clause-reckons g c = reckons (task_of g.P.Panel.answers g.C.Cell.glyph g.K.Cost.costs c.args.task.now) g.met.K.Cost.laws
+    (g.met.P.Panel.lawful c.args.task.now.scene.panel.now).bounded c.requires.asks
+    g.K.Cost.Few g.met.K.Cost.few_laws _ (c.loop-due.invariant.0 ∙ c.requires.memory)
+    (reach_of g.K.Cost.value g.K.Cost.costs.zero c.loop-due.labels c.loop-due.front) c.loop-due.invariant.1
+
+pub returns-then-is_beyond-clause-ends : goal.returns-then-is_beyond-clause-ends
+returns-then-is_beyond-clause-ends g c = λ t. ends_beyond (task_of g.P.Panel.answers g.C.Cell.glyph g.K.Cost.costs c.args.task.now) g.met.K.Cost.laws
+    (g.met.P.Panel.lawful c.args.task.now.scene.panel.now).bounded c.requires.asks
+    (reach_of g.K.Cost.value g.K.Cost.costs.zero c.loop-due.labels c.loop-due.front) c.loop-due.invariant.1 g.K.Cost.value
+    c.in-Some.due c.in-Some.ensures.next.1 (c.is_beyond.ensures.0 c.if-is_beyond.true)
+
+pub turn-requires-clause-in_turn : goal.turn-requires-clause-in_turn
+turn-requires-clause-in_turn g c = in_turn (task_of g.P.Panel.answers g.C.Cell.glyph g.K.Cost.costs c.args.task.now) g.met.K.Cost.laws
+    (g.met.P.Panel.lawful c.args.task.now.scene.panel.now).bounded c.requires.asks
+    (reach_of g.K.Cost.value g.K.Cost.costs.zero c.loop-due.labels c.loop-due.front) c.loop-due.invariant.1 g.K.Cost.value
+    c.in-Some.due c.in-Some.ensures.next.1
+    (λ e. let a = c.is_beyond.ensures.1 e in let b = c.if-is_beyond.false in absurd cc)
+
+pub loop-due-preserved : goal.loop-due-preserved
+loop-due-preserved g c = (
+  c.turn.ensures.same ∙ c.loop-due.invariant.0,
+  searching_on (task_of g.P.Panel.answers g.C.Cell.glyph g.K.Cost.costs c.args.task.now) g.met.K.Cost.laws
+      (g.met.P.Panel.lawful c.args.task.now.scene.panel.now).bounded c.requires.asks
+      (reach_of g.K.Cost.value g.K.Cost.costs.zero c.loop-due.labels c.loop-due.front)
+      (reach_of g.K.Cost.value g.K.Cost.costs.zero c.turn.new.labels c.turn.new.front)
+      (g.K.Cost.value c.in-Some.due.cost) c.in-Some.due.class c.turn.ensures.turned,
+  queued_on (task_of g.P.Panel.answers g.C.Cell.glyph g.K.Cost.costs c.args.task.now) g.met.K.Cost.laws
+      (g.met.P.Panel.lawful c.args.task.now.scene.panel.now).bounded c.requires.asks
+      (reach_of g.K.Cost.value g.K.Cost.costs.zero c.loop-due.labels c.loop-due.front)
+      (reach_of g.K.Cost.value g.K.Cost.costs.zero c.turn.new.labels c.turn.new.front)
+      (g.K.Cost.value c.in-Some.due.cost) c.in-Some.due.class c.turn.ensures.turned c.next_due.new.queue
+      (c.in-Some.ensures.same ∙ c.loop-due.invariant.2.classes) c.in-Some.ensures.next.0,
+  (let a = c.loop-due.invariant.3 in omega arith),
+)
+
+pub returns-clause-ends : goal.returns-clause-ends
+returns-clause-ends g c = λ t. ends_over (task_of g.P.Panel.answers g.C.Cell.glyph g.K.Cost.costs c.args.task.now) g.met.K.Cost.laws
+    (g.met.P.Panel.lawful c.args.task.now.scene.panel.now).bounded c.requires.asks
+    (reach_of g.K.Cost.value g.K.Cost.costs.zero c.loop-due.labels c.loop-due.front) c.loop-due.invariant.1 c.in_default.ensures.next.1

@@ -1,148 +1,68 @@
 -- The search begins, goes on turn by turn, and tells what it has found.
-use Rattle.std.proofs.Common.{◌∙◌, ◌≤◌, Bool, ℕ, ◌*◌, ap, arith, length, subst, sym}
+use Rattle.std.proofs.Common.{◌∙◌, ◌*◌, ◌≤◌, ap, arith, length, sym}
 use Rattle.display.specs.declared.size.Size.{Size}
-use Rattle.labels.specs.Label.{note, noted}
-use Rattle.labels.proofs.Memory.{noted_at}
-use Rattle.labels.specs.Note.{Note}
-use Rattle.leg_search.proofs.Keeping.{none_kept}
+use Rattle.labels.specs.Label.{noted}
 use Rattle.leg_search.proofs.Memories.{held_none}
-use Rattle.leg_search.proofs.Searches.{after_scan, goal_waits, no_way, stays, tells, told, trailed}
-use Rattle.leg_search.specs.Numbers.{Numbers}
-use Rattle.leg_search.specs.Memory.{Prepared}
-use Rattle.leg_search.specs.Rows.{Empty}
-use Rattle.leg_search.specs.Turn.{Ran}
+use Rattle.leg_search.proofs.Found.{found_none, found_told, found_trailed}
+use Rattle.leg_search.proofs.Searches.{stays, tells}
+use Rattle.leg_search.proofs.Standing.{most_places, number_in}
+use Rattle.leg_search.specs.Reading.{task_of}
+use Rattle.legs.specs.Scene.{numbered}
 use Rattle.legs.specs.Seen.{scened}
 use Rattle.legs.specs.Sequence.{none}
 use Rattle.leg_search.proofs.search.search.Goals as goal
 
-pub returns-then-states : goal.returns-then-states
-returns-then-states g c =
-    let n : Numbers (g.P.Panel.answers c.args.scene.now.panel.now).size c.args.start c.args.goal
-    c.number_states-states.result.places c.number_states-states.result.beginning c.number_states-states.result.goal =
-    subst (λ (z : Size). Numbers z c.args.start c.args.goal c.number_states-states.result.places
-    c.number_states-states.result.beginning c.number_states-states.result.goal) c.size-size.ensures
-    c.number_states-states.ensures in
-    let fits : c.number_states-states.result.places ≤ length c.prepare.new.labels = let e = n.places in omega arith in
-    tells g.K.Cost.costs g.met.K.Cost.laws (scened g.P.Panel.answers g.C.Cell.glyph c.args.scene.now)
-    (g.met.P.Panel.lawful c.args.scene.now.panel.now).bounded c.args.start c.requires.start
-    g.K.Cost.value c.prepare.new.labels _ c.args.goal none
-    (stays g.K.Cost.costs g.met.K.Cost.laws (scened g.P.Panel.answers g.C.Cell.glyph c.args.scene.now)
-    (g.met.P.Panel.lawful c.args.scene.now.panel.now).bounded c.args.start c.requires.start
-    (noted g.K.Cost.value g.K.Cost.costs.zero c.prepare.new.labels) c.args.goal c.requires.goal
-    (let a = n.beginning in let b = n.goal in omega arith))
-    (omega arith) fits (held_none c.prepare.new.labels c.number_states-states.result.places fits) c.zero.ensures
+pub returns-then-beginning-task-clause-answered : goal.returns-then-beginning-task-clause-answered
+returns-then-beginning-task-clause-answered g c =
+    let fits : c.places-places.result ≤ length c.args.labels.now = let e = (c.places-places.ensures ∙ ap (λ (z : Size). z.rows * z.columns) c.size-size.ensures) in
+    let m = c.requires.memory in omega arith in
+    tells g.K.Cost.costs g.met.K.Cost.laws (scened g.P.Panel.answers g.C.Cell.glyph c.args.task.now.scene)
+    (g.met.P.Panel.lawful c.args.task.now.scene.panel.now).bounded c.args.task.now.start c.requires.asks.start
+    g.K.Cost.value c.args.labels.now _ c.args.goal none
+    (stays g.K.Cost.costs g.met.K.Cost.laws (scened g.P.Panel.answers g.C.Cell.glyph c.args.task.now.scene)
+    (g.met.P.Panel.lawful c.args.task.now.scene.panel.now).bounded c.args.task.now.start c.requires.asks.start
+    (noted g.K.Cost.value g.K.Cost.costs.zero c.args.labels.now) c.args.goal c.requires.goal
+    (sym (c.state_of-beginning.ensures ∙ ap (λ (z : Size). numbered z c.args.task.now.start) c.size-size.ensures)
+    ∙ (c.if-beginning-task.true ∙ c.requires.number)))
+    (omega arith) fits (held_none c.args.labels.now c.places-places.result fits) c.zero.ensures
 
-pub scan-requires-clause-kept : goal.scan-requires-clause-kept
-scan-requires-clause-kept g c =
-    let n : Numbers (g.P.Panel.answers c.args.scene.now.panel.now).size c.args.start c.args.goal
-    c.number_states-states.result.places c.number_states-states.result.beginning c.number_states-states.result.goal =
-    subst (λ (z : Size). Numbers z c.args.start c.args.goal c.number_states-states.result.places
-    c.number_states-states.result.beginning c.number_states-states.result.goal) c.size-size.ensures
-    c.number_states-states.ensures in
-    none_kept g.K.Cost.costs (noted g.K.Cost.value g.K.Cost.costs.zero c.prepare.new.labels)
-    (g.P.Panel.answers c.args.scene.now.panel.now).size c.unreached-rows.result
-    c.number_states-states.result.beginning
-    (subst (λ (m : ℕ). Prepared g.K.Cost.costs (noted g.K.Cost.value g.K.Cost.costs.zero c.prepare.new.labels) m
-    c.number_states-states.result.beginning) n.places c.prepare.ensures)
-    (subst (λ (z : Size). Empty z c.unreached-rows.result) c.size-size.ensures c.unreached-rows.ensures)
+pub explore-requires-clause-within : goal.explore-requires-clause-within
+explore-requires-clause-within g c =
+    let e = (c.state_of-beginning.ensures ∙ ap (λ (z : Size). numbered z c.args.task.now.start) c.size-size.ensures) in
+    let a = number_in (g.P.Panel.answers c.args.task.now.scene.panel.now).size c.args.task.now.start
+    c.requires.asks.start in
+    let m = c.requires.memory in omega arith
 
-pub run-requires-clause-searching : goal.run-requires-clause-searching
-run-requires-clause-searching g c =
-    let n : Numbers (g.P.Panel.answers c.args.scene.now.panel.now).size c.args.start c.args.goal
-    c.number_states-states.result.places c.number_states-states.result.beginning c.number_states-states.result.goal =
-    subst (λ (z : Size). Numbers z c.args.start c.args.goal c.number_states-states.result.places
-    c.number_states-states.result.beginning c.number_states-states.result.goal) c.size-size.ensures
-    c.number_states-states.ensures in
-    record {
-      start = c.args.start;
-      on = c.requires.start;
-      frontier = after_scan g.K.Cost.costs g.met.K.Cost.laws (scened g.P.Panel.answers g.C.Cell.glyph c.args.scene.now)
-          (g.met.P.Panel.lawful c.args.scene.now.panel.now).bounded c.args.start c.requires.start
-          (noted g.K.Cost.value g.K.Cost.costs.zero c.prepare.new.labels)
-          (noted g.K.Cost.value g.K.Cost.costs.zero c.scan.new.labels) c.args.goal
-          c.number_states-states.result.places c.number_states-states.result.beginning
-          c.number_states-states.result.goal n c.prepare.ensures c.scan.ensures.carries;
-      goal = goal_waits g.K.Cost.costs g.met.K.Cost.laws (scened g.P.Panel.answers g.C.Cell.glyph c.args.scene.now)
-          (g.met.P.Panel.lawful c.args.scene.now.panel.now).bounded c.args.start c.requires.start
-          (noted g.K.Cost.value g.K.Cost.costs.zero c.prepare.new.labels)
-          (noted g.K.Cost.value g.K.Cost.costs.zero c.scan.new.labels) c.args.goal
-          c.number_states-states.result.places c.number_states-states.result.beginning
-          c.number_states-states.result.goal n c.prepare.ensures c.if-states.false c.scan.ensures.waits;
-    }
+pub overflow_cast-beginning : goal.overflow_cast-beginning
+overflow_cast-beginning g c =
+    let e = (c.state_of-beginning.ensures ∙ ap (λ (z : Size). numbered z c.args.task.now.start) c.size-size.ensures) in
+    let a = number_in (g.P.Panel.answers c.args.task.now.scene.panel.now).size c.args.task.now.start
+    c.requires.asks.start in
+    let b = most_places (g.P.Panel.answers c.args.task.now.scene.panel.now).size in omega arith
 
-pub returns-then-not-run : goal.returns-then-not-run
-returns-then-not-run g c =
-    let n : Numbers (g.P.Panel.answers c.args.scene.now.panel.now).size c.args.start c.args.goal
-    c.number_states-states.result.places c.number_states-states.result.beginning c.number_states-states.result.goal =
-    subst (λ (z : Size). Numbers z c.args.start c.args.goal c.number_states-states.result.places
-    c.number_states-states.result.beginning c.number_states-states.result.goal) c.size-size.ensures
-    c.number_states-states.ensures in
-    no_way g.K.Cost.costs g.met.K.Cost.laws (scened g.P.Panel.answers g.C.Cell.glyph c.args.scene.now)
-    (g.met.P.Panel.lawful c.args.scene.now.panel.now).bounded c.args.start c.requires.start
-    (noted g.K.Cost.value g.K.Cost.costs.zero c.run.new.labels) c.number_states-states.result.goal
-    (c.run.ensures.turns.frontier c.args.start c.requires.start
-    (after_scan g.K.Cost.costs g.met.K.Cost.laws (scened g.P.Panel.answers g.C.Cell.glyph c.args.scene.now)
-    (g.met.P.Panel.lawful c.args.scene.now.panel.now).bounded c.args.start c.requires.start
-    (noted g.K.Cost.value g.K.Cost.costs.zero c.prepare.new.labels)
-    (noted g.K.Cost.value g.K.Cost.costs.zero c.scan.new.labels) c.args.goal
-    c.number_states-states.result.places c.number_states-states.result.beginning
-    c.number_states-states.result.goal n c.prepare.ensures c.scan.ensures.carries))
-    c.args.goal c.requires.goal n.goal c.run.ensures.waits
-    (subst (λ (b : Bool). Ran g.K.Cost.costs (noted g.K.Cost.value g.K.Cost.costs.zero c.run.new.labels)
-    ((g.P.Panel.answers c.args.scene.now.panel.now).size.rows *
-    (g.P.Panel.answers c.args.scene.now.panel.now).size.columns)
-    c.number_states-states.result.goal b) c.if-not-run.true c.run.ensures.ran)
+pub returns-then-not-is_reached-clause-answered : goal.returns-then-not-is_reached-clause-answered
+returns-then-not-is_reached-clause-answered g c = found_none (task_of g.P.Panel.answers g.C.Cell.glyph g.K.Cost.costs c.args.task.now) g.met.K.Cost.laws
+    (g.met.P.Panel.lawful c.args.task.now.scene.panel.now).bounded c.requires.asks
+    (noted g.K.Cost.value g.K.Cost.costs.zero c.explore.new.labels) c.args.goal c.requires.goal c.requires.number
+    c.explore.ensures.ends
+    (λ h. let a = c.is_reached.ensures.1 h in let b = c.if-not-is_reached.true in absurd cc)
 
 pub trace-requires-clause-trailed : goal.trace-requires-clause-trailed
-trace-requires-clause-trailed g c =
-    let n : Numbers (g.P.Panel.answers c.args.scene.now.panel.now).size c.args.start c.args.goal
-    c.number_states-states.result.places c.number_states-states.result.beginning c.number_states-states.result.goal =
-    subst (λ (z : Size). Numbers z c.args.start c.args.goal c.number_states-states.result.places
-    c.number_states-states.result.beginning c.number_states-states.result.goal) c.size-size.ensures
-    c.number_states-states.ensures in
-    trailed g.K.Cost.costs g.met.K.Cost.laws (scened g.P.Panel.answers g.C.Cell.glyph c.args.scene.now)
-    (g.met.P.Panel.lawful c.args.scene.now.panel.now).bounded c.args.start c.requires.start
-    (noted g.K.Cost.value g.K.Cost.costs.zero c.run.new.labels) c.args.goal
-    c.number_states-states.result.places c.number_states-states.result.beginning
-    c.number_states-states.result.goal n
-    (c.run.ensures.turns.frontier c.args.start c.requires.start
-    (after_scan g.K.Cost.costs g.met.K.Cost.laws (scened g.P.Panel.answers g.C.Cell.glyph c.args.scene.now)
-    (g.met.P.Panel.lawful c.args.scene.now.panel.now).bounded c.args.start c.requires.start
-    (noted g.K.Cost.value g.K.Cost.costs.zero c.prepare.new.labels)
-    (noted g.K.Cost.value g.K.Cost.costs.zero c.scan.new.labels) c.args.goal
-    c.number_states-states.result.places c.number_states-states.result.beginning
-    c.number_states-states.result.goal n c.prepare.ensures c.scan.ensures.carries))
-    c.requires.goal c.run.ensures.waits
-    (subst (λ (b : Bool). Ran g.K.Cost.costs (noted g.K.Cost.value g.K.Cost.costs.zero c.run.new.labels)
-    ((g.P.Panel.answers c.args.scene.now.panel.now).size.rows *
-    (g.P.Panel.answers c.args.scene.now.panel.now).size.columns)
-    c.number_states-states.result.goal b) c.if-not-run.false c.run.ensures.ran)
+trace-requires-clause-trailed g c = found_trailed (task_of g.P.Panel.answers g.C.Cell.glyph g.K.Cost.costs c.args.task.now) g.met.K.Cost.laws
+    (g.met.P.Panel.lawful c.args.task.now.scene.panel.now).bounded c.requires.asks
+    (noted g.K.Cost.value g.K.Cost.costs.zero c.explore.new.labels) c.args.goal c.requires.goal c.requires.number
+    (c.is_reached.ensures.0 c.if-not-is_reached.false) _ _
+    (c.state_of-beginning.ensures ∙ ap (λ (z : Size). numbered z c.args.task.now.start) c.size-size.ensures)
+    (c.places-places.ensures ∙ ap (λ (z : Size). z.rows * z.columns) c.size-size.ensures)
+    c.explore.ensures.ends
 
-pub returns : goal.returns
-returns g c =
-    let n : Numbers (g.P.Panel.answers c.args.scene.now.panel.now).size c.args.start c.args.goal
-    c.number_states-states.result.places c.number_states-states.result.beginning c.number_states-states.result.goal =
-    subst (λ (z : Size). Numbers z c.args.start c.args.goal c.number_states-states.result.places
-    c.number_states-states.result.beginning c.number_states-states.result.goal) c.size-size.ensures
-    c.number_states-states.ensures in
-    told g.K.Cost.costs g.met.K.Cost.laws (scened g.P.Panel.answers g.C.Cell.glyph c.args.scene.now)
-    (g.met.P.Panel.lawful c.args.scene.now.panel.now).bounded c.args.start c.requires.start
-    (noted g.K.Cost.value g.K.Cost.costs.zero c.run.new.labels) c.args.goal
-    c.number_states-states.result.places c.number_states-states.result.beginning
-    c.number_states-states.result.goal n
-    (c.run.ensures.turns.frontier c.args.start c.requires.start
-    (after_scan g.K.Cost.costs g.met.K.Cost.laws (scened g.P.Panel.answers g.C.Cell.glyph c.args.scene.now)
-    (g.met.P.Panel.lawful c.args.scene.now.panel.now).bounded c.args.start c.requires.start
-    (noted g.K.Cost.value g.K.Cost.costs.zero c.prepare.new.labels)
-    (noted g.K.Cost.value g.K.Cost.costs.zero c.scan.new.labels) c.args.goal
-    c.number_states-states.result.places c.number_states-states.result.beginning
-    c.number_states-states.result.goal n c.prepare.ensures c.scan.ensures.carries))
-    c.requires.goal c.run.ensures.waits
-    (subst (λ (b : Bool). Ran g.K.Cost.costs (noted g.K.Cost.value g.K.Cost.costs.zero c.run.new.labels)
-    ((g.P.Panel.answers c.args.scene.now.panel.now).size.rows *
-    (g.P.Panel.answers c.args.scene.now.panel.now).size.columns)
-    c.number_states-states.result.goal b) c.if-not-run.false c.run.ensures.ran)
-    g.K.Cost.value c.trace.new.labels _ c.trace.ensures.first (let e = n.places in omega arith) c.trace.ensures.traces
-    (c.cost.ensures ∙ ap (λ (a : Note _). a.cost) (ap (note g.K.Cost.value) (sym c.index-labels-states.is)
-    ∙ sym (noted_at g.K.Cost.value g.K.Cost.costs.zero c.run.new.labels c.number_states-states.result.goal
-    c.index-labels-states.result (let e = n.places in let h = n.goal_in in omega arith) c.index-labels-states.is)))
+pub returns-clause-answered : goal.returns-clause-answered
+returns-clause-answered g c = found_told (task_of g.P.Panel.answers g.C.Cell.glyph g.K.Cost.costs c.args.task.now) g.met.K.Cost.laws
+    (g.met.P.Panel.lawful c.args.task.now.scene.panel.now).bounded c.requires.asks
+    (noted g.K.Cost.value g.K.Cost.costs.zero c.explore.new.labels) c.args.goal c.requires.goal c.requires.number
+    (c.is_reached.ensures.0 c.if-not-is_reached.false) _ _
+    (c.state_of-beginning.ensures ∙ ap (λ (z : Size). numbered z c.args.task.now.start) c.size-size.ensures)
+    (c.places-places.ensures ∙ ap (λ (z : Size). z.rows * z.columns) c.size-size.ensures)
+    g.K.Cost.value c.trace.new.labels _ c.explore.ensures.ends c.trace.ensures.first
+    (let e = (c.places-places.ensures ∙ ap (λ (z : Size). z.rows * z.columns) c.size-size.ensures) in
+    let m = c.requires.memory in omega arith) c.trace.ensures.traces c.cost_of.ensures

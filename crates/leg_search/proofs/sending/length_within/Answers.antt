@@ -1,5 +1,5 @@
 -- The motions so far and one more have too many bytes, and all of them have no fewer.
-use Rattle.std.proofs.Common.{◌≡◌, ◌∙◌, ◌+◌, ◌≤◌, ℕ, ap, arith, length, sym}
+use Rattle.std.proofs.Common.{◌∙◌, arith}
 use Rattle.leg_search.proofs.Sends.{lengths_turn, sent_turn}
 use Rattle.legs.specs.Seen.{scened}
 use Rattle.leg_search.proofs.sending.length_within.Goals as goal

@@ -1,0 +1,4 @@
+pub mod Swaps
+pub mod Heaps
+pub mod Sleepers
+pub mod Queues

@@ -1,0 +1,5 @@
+pub mod Awake
+pub mod Heap
+pub mod Numbering
+pub mod Queue
+pub mod Rank
