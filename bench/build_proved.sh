@@ -5,7 +5,7 @@ set -euo pipefail
 here=$(cd "$(dirname "${BASH_SOURCE[0]}")" && pwd)
 work=$here/target/proved
 rm -rf "$work"
-mkdir -p "$work/crates/bench_c/src"
+mkdir -p "$work/crates"
 cp "$here/../crates.txt" "$work/"
 for crate in "$here"/../crates/*/; do
     name=$(basename "$crate")
@@ -16,10 +16,15 @@ for crate in "$here"/../crates/*/; do
         fi
     done
 done
-for source in "$here"/bench_c/*.rattle; do
+mkdir -p "$work/crates/bench_c/src" "$work/crates/bench_c/specs"
+for source in "$here"/bench_c/src/*.rattle; do
     cp "$source" "$work/crates/bench_c/src/$(basename "$source" .rattle).rt"
 done
-echo 'bench_c staticlib: display canvas panel panel_model dec_rules dec_panel cost legs labels motion_order' \
-    'leg_search faults damage runs plan planning screen' >> "$work/crates.txt"
+for source in "$here"/bench_c/specs/*.rattle; do
+    cp "$source" "$work/crates/bench_c/specs/$(basename "$source" .rattle).antt"
+done
+# it stands on the panel and the screen, and on what these stand on
+below=$(sed -n 's/^\(dec_panel\|screen\):/\1/p' "$work/crates.txt" | tr ' ' '\n' | sort -u | tr '\n' ' ')
+echo "bench_c staticlib: $below" >> "$work/crates.txt"
 (cd "$work/crates/bench_c" && rt lib)
 cp "$work/crates/bench_c/out/libbench_c.a" "$(dirname "$(rt doc)")/c/liblibc_c.a" "$work/"

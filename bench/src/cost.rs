@@ -1,12 +1,15 @@
 //! What motions cost.
 
+use crate::searcher::Price;
+
 #[derive(Clone, Copy, Debug, PartialEq, Eq)]
 pub enum Kind {
     Byte,
     Line,
 }
 
-/// A cost type. `Ord` is the order of costs; adding a motion makes a cost strictly more.
+/// A cost type. `Ord` is the order of costs. The sum is associative and `ZERO` is neutral; raising either side never
+/// lowers it, and adding a motion behind makes strictly more. It need not be the same in either order.
 pub trait Cost: Copy + Ord {
     const ZERO: Self;
 
@@ -15,8 +18,7 @@ pub trait Cost: Copy + Ord {
 
     fn plus(self, other: Self) -> Self;
 
-    /// The milliseconds, 0 where they do not count, and the bytes.
-    fn parts(self) -> (u32, u16);
+    fn price(self) -> Price;
 }
 
 /// The number of bytes.
@@ -47,8 +49,11 @@ impl Cost for ByteCost {
         }
     }
 
-    fn parts(self) -> (u32, u16) {
-        (0, self.bytes)
+    fn price(self) -> Price {
+        Price {
+            milliseconds: 0,
+            bytes: self.bytes,
+        }
     }
 }
 
@@ -72,7 +77,10 @@ impl Cost for LineCost {
         }
     }
 
-    fn parts(self) -> (u32, u16) {
-        (self.milliseconds, self.bytes)
+    fn price(self) -> Price {
+        Price {
+            milliseconds: self.milliseconds,
+            bytes: self.bytes,
+        }
     }
 }

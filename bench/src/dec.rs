@@ -1,8 +1,12 @@
 //! The deferred-wrap panel.
 
+use std::fmt::Arguments;
+use std::io::Write;
+
 use crate::panel::Panel;
 use crate::place::{Cursor, Place, Size};
 
+#[derive(Clone, Copy)]
 pub struct DecPanel {
     pub size: Size,
 }
@@ -27,6 +31,11 @@ enum Motion {
 const ADDRESSES_FROM: u16 = 207;
 
 impl DecPanel {
+    /// The number of the motion that leads straight to a place.
+    pub fn address(size: Size, place: Place) -> u16 {
+        ADDRESSES_FROM + size.number(place) as u16
+    }
+
     fn motion(&self, number: u16) -> Option<Motion> {
         Some(match number {
             0 => Motion::Return,
@@ -54,30 +63,37 @@ impl Panel for DecPanel {
     #[inline]
     fn landing(&self, motion: u16, from: Cursor) -> Option<Place> {
         let place = from.place;
-        match self.motion(motion)? {
-            Motion::Return => Some(Place { column: 0, ..place }),
-            Motion::Address(to) => Some(to),
-            _ if from.held => None,
-            Motion::Back => place.left_of(1),
-            Motion::Feed => self.size.below(place, 1),
-            Motion::Up(n) => place.above(n),
-            Motion::Down(n) => self.size.below(place, n),
-            Motion::Right(n) => self.size.right_of(place, n),
-            Motion::Left(n) => place.left_of(n),
+        let motion = self.motion(motion)?;
+        let steps = match motion {
+            Motion::Return => return Some(Place { column: 0, ..place }),
+            Motion::Address(to) => return Some(to),
+            Motion::Up(n) | Motion::Down(n) | Motion::Right(n) | Motion::Left(n) => n,
+            Motion::Back | Motion::Feed => 1,
+        };
+        if from.held {
+            return None;
+        }
+        let is_upright = matches!(motion, Motion::Feed | Motion::Up(_) | Motion::Down(_));
+        let is_backward = matches!(motion, Motion::Back | Motion::Up(_) | Motion::Left(_));
+        match (is_upright, is_backward) {
+            (true, true) => place.above(steps),
+            (true, false) => self.size.below(place, steps),
+            (false, true) => place.left_of(steps),
+            (false, false) => self.size.right_of(place, steps),
         }
     }
 
-    fn bytes(&self, motion: u16) -> Vec<u8> {
+    fn spell(&self, motion: u16, bytes: &mut Vec<u8>) {
         match self.motion(motion) {
-            None => Vec::new(),
-            Some(Motion::Return) => b"\r".to_vec(),
-            Some(Motion::Back) => b"\x08".to_vec(),
-            Some(Motion::Feed) => b"\n".to_vec(),
-            Some(Motion::Up(n)) => relative(n, 'A'),
-            Some(Motion::Down(n)) => relative(n, 'B'),
-            Some(Motion::Right(n)) => relative(n, 'C'),
-            Some(Motion::Left(n)) => relative(n, 'D'),
-            Some(Motion::Address(to)) => format!("\x1B[{};{}H", to.row + 1, to.column + 1).into_bytes(),
+            None => {}
+            Some(Motion::Return) => bytes.push(b'\r'),
+            Some(Motion::Back) => bytes.push(0x08),
+            Some(Motion::Feed) => bytes.push(b'\n'),
+            Some(Motion::Up(n)) => relative(bytes, n, 'A'),
+            Some(Motion::Down(n)) => relative(bytes, n, 'B'),
+            Some(Motion::Right(n)) => relative(bytes, n, 'C'),
+            Some(Motion::Left(n)) => relative(bytes, n, 'D'),
+            Some(Motion::Address(to)) => sequence(bytes, format_args!("{};{}H", to.row + 1, to.column + 1)),
         }
     }
 
@@ -112,8 +128,16 @@ impl Panel for DecPanel {
     }
 }
 
-/// ESC [, a count that is left out where it is 1, and a letter.
-fn relative(n: u8, letter: char) -> Vec<u8> {
-    let count = if n == 1 { String::new() } else { n.to_string() };
-    format!("\x1B[{count}{letter}").into_bytes()
+/// A count that is left out where it is 1, and a letter.
+fn relative(bytes: &mut Vec<u8>, n: u8, letter: char) {
+    if n == 1 {
+        sequence(bytes, format_args!("{letter}"));
+    } else {
+        sequence(bytes, format_args!("{n}{letter}"));
+    }
+}
+
+/// ESC [ and the rest of a sequence.
+fn sequence(bytes: &mut Vec<u8>, rest: Arguments) {
+    write!(bytes, "\x1B[{rest}").expect("a vector takes all that is written");
 }

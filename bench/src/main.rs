@@ -1,145 +1,247 @@
-//! Times the searches on the same legs, in one run, and compares their answers. It fails where answers differ, and
-//! where the proved search takes more than twice as long as the unproved one.
+//! Times the searches on the same legs, in one run, and compares their answers. It fails where answers differ, where
+//! the proved search takes much longer than its unproved twin, and where the twin takes much longer than its peer by
+//! rows on one of the panels with many costs.
 
 use std::env;
 use std::process::ExitCode;
 use std::time::Duration;
 
 use legs_bench::cost::Kind;
+use legs_bench::dec::DecPanel;
+use legs_bench::delayed::{Delayed, short_ones_dear, spread};
+use legs_bench::described;
+use legs_bench::pairs;
 #[cfg(feature = "proved")]
-use legs_bench::proved;
+use legs_bench::proved::Proved;
 use legs_bench::questions::{self, Question, SIZE};
-use legs_bench::reference::Reference;
-use legs_bench::search;
-use legs_bench::searcher::{Scene, Searcher};
-use legs_bench::times::median;
+use legs_bench::reference;
+use legs_bench::searcher::{Cell, Searcher};
+use legs_bench::times::Times;
+use legs_bench::timing::best_times;
+use legs_bench::ways::Way;
 use legs_bench::worked::WORKED;
 
-/// As many legs as the one argument says, or so many.
-const LEGS: usize = 1000;
-/// The reference is slow: it is asked every fiftieth leg.
+/// As many random legs as the one argument says, or so many.
+const LEGS: usize = 200;
+/// The legs of the plans of so many pairs of pictures.
+const PAIRS: usize = 8;
+/// The reference is slow: it is asked every fiftieth leg that is timed, and every eighth of the others.
 const SAMPLE: usize = 50;
-/// Each leg is timed so often, and its best time counts: the others tell what else the machine was doing.
-const ROUNDS: usize = 8;
-const MOST_RATIO: f64 = 2.0;
-/// The pen now set.
-const PEN: u8 = 0;
+const SAMPLE_OF_OTHERS: usize = 8;
+/// Each leg is timed so often, and its best time counts.
+const ROUNDS: usize = 5;
+/// So many copies of a question are timed at once.
+const COPIES: u32 = 8;
+/// Most legs of plans are short.
+const COPIES_OF_PLANS: u32 = 32;
+const MOST_OF_PROVED: f64 = 1.5;
+/// On the panels with many costs.
+const MOST_OF_TWIN: f64 = 2.0;
+
+const DEC: DecPanel = DecPanel { size: SIZE };
+
+/// Searches on one panel by one cost. The twin is the first, and the peer by rows the second.
+struct Field {
+    searchers: Vec<Box<dyn Searcher>>,
+    reference: Box<dyn Searcher>,
+    /// So many times its peer's time may the twin take.
+    most_of_twin: f64,
+}
+
+/// What is asked in one setting.
+struct Asked {
+    timed: Vec<Question>,
+    /// These are only compared.
+    others: Vec<Question>,
+    copies: u32,
+}
 
 fn main() -> ExitCode {
     let legs = env::args()
         .nth(1)
         .and_then(|legs| legs.parse().ok())
         .unwrap_or(LEGS);
-    let blank = questions::blank_glass();
-    let filled = questions::filled_glass();
+    let glasses = [
+        ("blank", questions::blank_glass()),
+        ("filled", questions::filled_glass()),
+    ];
     println!(
-        "DEC panel, {} x {}, {legs} legs: the median time of a leg",
+        "{} x {}: what a leg takes, in microseconds",
         SIZE.rows, SIZE.columns
     );
     let mut ok = true;
     for kind in [Kind::Byte, Kind::Line] {
-        for (picture, glass) in [("blank", &blank), ("filled", &filled)] {
-            println!("{kind:?} cost, {picture} glass, pen {PEN}");
-            ok &= compare(kind, Scene { glass, pen: PEN }, legs);
+        let mut field = dec_field(kind);
+        ok &= field.finds_worked(kind);
+        for (picture, glass) in &glasses {
+            println!("DEC panel, {kind:?} cost, {picture} glass, random pairs");
+            ok &= field.compare(&random(glass, legs));
+            println!("DEC panel, {kind:?} cost, {picture} glass, legs of plans");
+            ok &= field.compare(&of_plans(glass));
         }
+    }
+    let mut many = many_costs_field();
+    let mut dear = short_ones_dear_field();
+    for (picture, glass) in &glasses {
+        println!("Panel with many costs, Line cost, {picture} glass, random pairs");
+        ok &= many.compare(&random(glass, legs / 2));
+        println!("The same with short motions dear");
+        ok &= dear.compare(&few(glass, legs / 10));
     }
     println!("{}", if ok { "passed" } else { "FAILED" });
     if ok { ExitCode::SUCCESS } else { ExitCode::FAILURE }
 }
 
-/// The searches that are measured against each other, the unproved one first.
-fn searchers(kind: Kind) -> Vec<Box<dyn Searcher>> {
-    vec![
-        search::on_dec_panel(kind, SIZE),
-        #[cfg(feature = "proved")]
-        Box::new(proved::Proved::new(kind)),
-    ]
+fn dec_field(kind: Kind) -> Field {
+    Field {
+        searchers: vec![
+            Way::Twin.by(kind, DEC),
+            Way::ByRows.by(kind, DEC),
+            Way::Lazily.by(kind, DEC),
+            #[cfg(feature = "proved")]
+            Box::new(Proved::new(kind, false)),
+        ],
+        reference: reference::by(kind, described::dec(SIZE)),
+        most_of_twin: f64::INFINITY,
+    }
 }
 
-/// Prints the times in one setting, and whether all answers agree. Tells whether all is as it should be.
-fn compare(kind: Kind, scene: Scene, legs: usize) -> bool {
-    let mut searchers = searchers(kind);
-    let mut reference: [Box<dyn Searcher>; 1] = [Box::new(Reference::new(kind))];
-    let unheld = questions::unheld(legs);
-    let held = questions::held();
-    let sample: Vec<Question> = unheld.iter().step_by(SAMPLE).copied().collect();
-    let mut ok = true;
-
-    let times = medians(&mut searchers, scene, &unheld, ROUNDS);
-    let slow = medians(&mut reference, scene, &sample, 1);
-    for (searcher, median) in searchers.iter().chain(&reference).zip(times.iter().chain(&slow)) {
-        print_time(searcher.name(), *median);
+fn many_costs_field() -> Field {
+    let panel = Delayed {
+        panel: DEC,
+        delay: spread,
+    };
+    Field {
+        searchers: vec![
+            Way::Twin.by(Kind::Line, panel),
+            Way::ByRows.by(Kind::Line, panel),
+            Way::Lazily.by(Kind::Line, panel),
+            #[cfg(feature = "proved")]
+            Box::new(Proved::new(Kind::Line, true)),
+        ],
+        reference: reference::by(Kind::Line, described::dec(SIZE).with_delays(spread)),
+        most_of_twin: MOST_OF_TWIN,
     }
-    for (searcher, median) in searchers.iter().zip(&times).skip(1) {
-        let ratio = median.as_secs_f64() / times[0].as_secs_f64();
-        println!(
-            "    ratio     {ratio:10.2}    {} to {}",
-            searcher.name(),
-            searchers[0].name()
-        );
-        ok &= ratio <= MOST_RATIO;
-    }
+}
 
-    for searcher in &mut searchers {
-        for worked in WORKED.iter().filter(|worked| worked.kind == kind) {
-            if !worked.is_found_by(searcher.as_mut()) {
-                println!("    {} does not find {worked:?}", searcher.name());
-                ok = false;
+fn short_ones_dear_field() -> Field {
+    let panel = Delayed {
+        panel: DEC,
+        delay: short_ones_dear,
+    };
+    Field {
+        searchers: vec![
+            Way::Twin.by(Kind::Line, panel),
+            Way::ByRows.by(Kind::Line, panel),
+            Way::Lazily.by(Kind::Line, panel),
+        ],
+        reference: reference::by(Kind::Line, described::dec(SIZE).with_delays(short_ones_dear)),
+        most_of_twin: MOST_OF_TWIN,
+    }
+}
+
+fn random(glass: &[Cell], legs: usize) -> Asked {
+    Asked {
+        timed: questions::unheld(glass, legs),
+        others: questions::held(glass),
+        copies: COPIES,
+    }
+}
+
+/// For searches that take long.
+fn few(glass: &[Cell], legs: usize) -> Asked {
+    Asked {
+        timed: questions::unheld(glass, legs),
+        others: questions::held(glass),
+        copies: 1,
+    }
+}
+
+fn of_plans(glass: &[Cell]) -> Asked {
+    Asked {
+        timed: questions::of_plans(&pairs::a_run_in_each_row(glass, PAIRS)),
+        others: Vec::new(),
+        copies: COPIES_OF_PLANS,
+    }
+}
+
+impl Field {
+    /// Whether each finds the legs that were worked out by hand.
+    fn finds_worked(&mut self, kind: Kind) -> bool {
+        let mut ok = true;
+        for searcher in self.searchers.iter_mut().chain([&mut self.reference]) {
+            for worked in WORKED.iter().filter(|worked| worked.kind == kind) {
+                if !worked.is_found_by(searcher.as_mut()) {
+                    println!("{} does not find {worked:?}", searcher.name());
+                    ok = false;
+                }
             }
         }
+        ok
     }
-    let (unproved, others) = searchers.split_first_mut().expect("there is the unproved search");
-    for other in others {
-        ok &= agree(unproved.as_mut(), other.as_mut(), scene, &[&unheld, &held]);
-    }
-    ok & agree(unproved.as_mut(), reference[0].as_mut(), scene, &[&sample, &held])
-}
 
-/// The median time of a leg for each searcher. They take turns with all the legs, in either order, so that the machine
-/// is as busy for each of them.
-fn medians(
-    searchers: &mut [Box<dyn Searcher>],
-    scene: Scene,
-    questions: &[Question],
-    rounds: usize,
-) -> Vec<Duration> {
-    let mut best = vec![vec![Duration::MAX; questions.len()]; searchers.len()];
-    for round in 0..rounds {
-        let mut turns: Vec<_> = searchers.iter_mut().zip(&mut best).collect();
-        if round % 2 == 1 {
-            turns.reverse();
+    /// Prints the times in one setting, and whether all answers agree. Tells whether all is as it should be.
+    fn compare(&mut self, asked: &Asked) -> bool {
+        let times: Vec<Times> =
+            best_times(&mut self.searchers, &asked.timed, ROUNDS, |searcher, question| {
+                searcher.time(question.scene(), question.start, question.goal, asked.copies)
+            })
+            .into_iter()
+            .map(Times::of)
+            .collect();
+        println!("                   median       mean    to twin");
+        for (searcher, times_of) in self.searchers.iter().zip(&times) {
+            print_times(searcher.name(), *times_of, times_of.to(times[0]));
         }
-        for (searcher, best) in turns {
-            for (question, best) in questions.iter().zip(best) {
-                *best = searcher.time(scene, question.start, question.goal).min(*best);
-            }
+        let proved = times.get(3).map_or(0.0, |proved| proved.to(times[0]));
+        let is_fast = proved <= MOST_OF_PROVED && times[0].to(times[1]) <= self.most_of_twin;
+        if !is_fast {
+            println!("    TOO SLOW");
         }
+        self.agree(asked) && is_fast
     }
-    best.into_iter().map(median).collect()
+
+    /// Whether all find the legs that the twin finds: the same costs and the same motions.
+    fn agree(&mut self, asked: &Asked) -> bool {
+        let all: Vec<&Question> = asked.timed.iter().chain(&asked.others).collect();
+        let timed = asked.timed.iter().step_by(SAMPLE);
+        let others = asked.others.iter().step_by(SAMPLE_OF_OTHERS);
+        let sample: Vec<&Question> = timed.chain(others).collect();
+        let (twin, others) = self.searchers.split_first_mut().expect("there is the twin");
+        let mut ok = true;
+        for other in others {
+            ok &= agree(twin.as_mut(), other.as_mut(), &all);
+        }
+        ok & agree(twin.as_mut(), self.reference.as_mut(), &sample)
+    }
 }
 
-fn print_time(name: &str, time: Duration) {
-    println!("    {name:9} {:10.1} us", time.as_secs_f64() * 1e6);
+fn print_times(name: &str, times: Times, ratio: f64) {
+    let [median, mean] = [times.median, times.mean].map(microseconds);
+    println!("    {name:10} {median:10.2} {mean:10.2} {ratio:10.2}");
 }
 
-/// Whether two searchers find the same legs: the same costs and the same motions.
-fn agree(one: &mut dyn Searcher, other: &mut dyn Searcher, scene: Scene, questions: &[&[Question]]) -> bool {
-    let mut legs = 0;
+fn microseconds(time: Duration) -> f64 {
+    time.as_secs_f64() * 1e6
+}
+
+/// Whether two searchers find the same legs.
+fn agree(one: &mut dyn Searcher, other: &mut dyn Searcher, questions: &[&Question]) -> bool {
     let mut differ = 0;
-    for question in questions.iter().copied().flatten() {
-        let found = one.leg(scene, question.start, question.goal);
-        let by_other = other.leg(scene, question.start, question.goal);
-        legs += 1;
+    for question in questions {
+        let found = one.leg(question.scene(), question.start, question.goal);
+        let by_other = other.leg(question.scene(), question.start, question.goal);
         if found != by_other {
             differ += 1;
             println!("    {question:?}: {found:?}, but {by_other:?}");
         }
     }
     println!(
-        "    {} and {} agree on {} of {legs} legs",
+        "    {} and {} agree on {} of {} legs",
         one.name(),
         other.name(),
-        legs - differ
+        questions.len() - differ,
+        questions.len()
     );
     differ == 0
 }

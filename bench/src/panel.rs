@@ -11,8 +11,8 @@ pub trait Panel {
     /// Where a motion lands from a cursor, if it is offered there.
     fn landing(&self, motion: u16, from: Cursor) -> Option<Place>;
 
-    /// The bytes of a motion: 1 to 16 of them.
-    fn bytes(&self, motion: u16) -> Vec<u8>;
+    /// Appends the bytes of a motion: 1 to 16 of them.
+    fn spell(&self, motion: u16, bytes: &mut Vec<u8>);
 
     fn milliseconds(&self, motion: u16) -> u16;
 

@@ -5,7 +5,7 @@ use std::ops::Range;
 use crate::panel::Panel;
 use crate::place::{Cursor, Place, Size};
 use crate::searcher::{Cell, Scene, Searcher};
-use crate::sending::sent;
+use crate::sending::send;
 
 /// Where a panel stands between two plans: the place of its cursor, which is not held, and the pen now set.
 #[derive(Clone, Copy, Debug, PartialEq, Eq)]
@@ -90,10 +90,10 @@ impl<P: Panel> Progress<'_, P> {
             glass: &self.glass,
             pen: self.pen,
         };
-        let leg = self.legs.leg(scene, self.cursor, goal).ok_or(goal)?;
-        let bytes = sent(self.panel, scene, self.cursor, &leg.motions);
-        self.bytes
-            .extend(bytes.expect("the motions of a leg are offered"));
+        self.legs.find(scene, self.cursor, goal).ok_or(goal)?;
+        let motions = self.legs.motions();
+        send(self.panel, scene, self.cursor, motions, &mut self.bytes)
+            .expect("the motions of a leg are offered");
         self.cursor = goal.resting();
         Ok(())
     }

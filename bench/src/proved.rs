@@ -6,7 +6,7 @@ use std::time::{Duration, Instant};
 
 use crate::cost::Kind;
 use crate::place::{Cursor, Place};
-use crate::searcher::{Cell, Found, Scene, Searcher};
+use crate::searcher::{Cell, Price, Scene, Searcher};
 
 /// Numbers 0 and 1 stand for false and true.
 #[repr(C)]
@@ -34,6 +34,7 @@ unsafe extern "C" {
     /// pointer is followed by a length.
     fn legs_serve(
         line: u8,
+        delayed: u8,
         pen: u8,
         cells: *const Cell,
         bytes: usize,
@@ -45,22 +46,25 @@ unsafe extern "C" {
     ) -> u8;
 }
 
-/// How many copies of a question are timed at once.
-const COPIES: usize = 16;
-
 pub struct Proved {
     kind: Kind,
+    delayed: bool,
+    /// There is room for the longest leg.
     motions: Vec<u16>,
+    /// So many motions has the leg that was found last.
+    count: usize,
     /// The least time that a call without questions has taken.
     without: Duration,
 }
 
 impl Proved {
-    /// On a deferred-wrap panel of 24 rows and 80 columns.
-    pub fn new(kind: Kind) -> Proved {
+    /// On a deferred-wrap panel of 24 rows and 80 columns, or one with a delay of its own for each motion.
+    pub fn new(kind: Kind, delayed: bool) -> Proved {
         Proved {
             kind,
+            delayed,
             motions: vec![0; 24 * 80],
+            count: 0,
             without: Duration::MAX,
         }
     }
@@ -71,6 +75,7 @@ impl Proved {
         let served = unsafe {
             legs_serve(
                 (self.kind == Kind::Line).into(),
+                self.delayed.into(),
                 scene.pen,
                 scene.glass.as_ptr(),
                 size_of_val(scene.glass),
@@ -101,22 +106,26 @@ impl Searcher for Proved {
         "proved"
     }
 
-    fn leg(&mut self, scene: Scene, start: Cursor, goal: Place) -> Option<Found> {
+    fn find(&mut self, scene: Scene, start: Cursor, goal: Place) -> Option<Price> {
         let answer = self.serve(scene, &[question(start, goal)]);
-        (answer.found != 0).then(|| Found {
+        self.count = answer.motions.into();
+        (answer.found != 0).then_some(Price {
             milliseconds: answer.milliseconds,
             bytes: answer.bytes,
-            motions: self.motions[..usize::from(answer.motions)].to_vec(),
         })
     }
 
-    fn time(&mut self, scene: Scene, start: Cursor, goal: Place) -> Duration {
+    fn motions(&self) -> &[u16] {
+        &self.motions[..self.count]
+    }
+
+    fn time(&mut self, scene: Scene, start: Cursor, goal: Place, copies: u32) -> Duration {
         let begin = Instant::now();
         black_box(self.serve(scene, &[]));
         self.without = self.without.min(begin.elapsed());
-        let questions = [question(start, goal); COPIES];
+        let questions = vec![question(start, goal); copies as usize];
         let begin = Instant::now();
         black_box(self.serve(scene, &questions));
-        begin.elapsed().saturating_sub(self.without) / COPIES as u32
+        begin.elapsed().saturating_sub(self.without) / copies
     }
 }

@@ -1,220 +1,205 @@
-//! The search that the proved one is measured against: it settles the cheapest place, looks where the motions lead
-//! from there, and ends when the goal is settled.
+//! The unproved twin of the proved search: the same way to the same legs, in the same memory.
 //!
-//! Every motion adds to the cost, so a place's predecessors in least sequences are all settled before it, and the
-//! order rule can be kept as a running minimum: among the ways that cost the same, the last motion with the smallest
-//! number, and then the one from the place with the smallest number. Motions are taken in the order of their costs,
-//! so a scan can stop where the goal has been reached for less.
+//! The states that are reached stand in a line in the order of their costs. Of each class of motions of one cost, a
+//! number says from which place of the line on it is due. Each turn takes the class that is due at the least cost, from
+//! all states of one cost: so states are reached in the order of their costs, and the first way to one is a least one.
+//!
+//! A motion adds to the cost. So when the goal is reached, nothing else that is reached at that cost counts, and the
+//! goal itself is improved by such motions alone as do not come later by their numbers.
+//!
+//! Where nearly each pair of a state and a class is a turn of its own, turns are dear. So a search that has taken as
+//! many as it may, or too many for the few states that it has reached, begins anew and takes all motions of a state at
+//! once.
 
-use crate::cost::{ByteCost, Cost, Kind, LineCost};
-use crate::dec::DecPanel;
-use crate::order::{self, Offer};
+use crate::agenda::{Agenda, Due};
+use crate::at_once;
+use crate::cost::Cost;
+use crate::landing::{landing, numbered};
+use crate::line::{Departure, Line};
+use crate::order::Classes;
 use crate::panel::Panel;
-use crate::place::{Cursor, MOST_ROWS, Place, Size};
-use crate::searcher::{Found, Scene, Searcher};
+use crate::place::{Cursor, Place};
+use crate::searcher::{Price, Scene, Searcher};
+use crate::ways::Way;
+
+/// So many turns may a search take: far more than it needs on a deferred-wrap panel.
+const MOST_TURNS: u16 = 49152;
+/// So many it may take however few states are reached.
+const FEW_TURNS: u16 = 1024;
+/// A turn takes as long as so many landings of motions that are taken at once.
+const TURN: usize = 32;
 
 pub struct Search<P, C> {
     panel: P,
-    order: Vec<Offer>,
-    /// One for each place, and after them one for a held start.
-    labels: Vec<Label<C>>,
-}
-
-/// The best way to a place that is known so far.
-#[derive(Clone, Copy)]
-struct Label<C> {
-    cost: C,
-    motion: u16,
-    from: u16,
-    state: State,
-}
-
-#[derive(Clone, Copy, PartialEq, Eq)]
-#[repr(u8)]
-enum State {
-    Unreached,
-    Reached,
-    /// The way is the leg.
-    Settled,
-}
-
-/// The cheapest of each row's places that are reached and not settled, by its cost and column.
-struct Frontier<C> {
-    rows: [Option<(C, u8)>; MOST_ROWS],
-}
-
-/// The search on a deferred-wrap panel of this size.
-pub fn on_dec_panel(kind: Kind, size: Size) -> Box<dyn Searcher> {
-    let panel = DecPanel { size };
-    match kind {
-        Kind::Byte => Box::new(Search::<_, ByteCost>::new(panel)),
-        Kind::Line => Box::new(Search::<_, LineCost>::new(panel)),
-    }
-}
-
-impl<C: Cost> Label<C> {
-    const UNREACHED: Label<C> = Label {
-        cost: C::ZERO,
-        motion: 0,
-        from: 0,
-        state: State::Unreached,
-    };
-
-    /// Whether a way comes before the one known: by its cost, and then by the order rule.
-    fn yields_to(&self, cost: C, motion: u16, from: u16) -> bool {
-        self.state == State::Unreached
-            || cost < self.cost
-            || cost == self.cost && (motion, from) < (self.motion, self.from)
-    }
-}
-
-impl<C: Cost> Frontier<C> {
-    const EMPTY: Frontier<C> = Frontier {
-        rows: [None; MOST_ROWS],
-    };
-
-    fn add(&mut self, place: Place, cost: C) {
-        let row = &mut self.rows[usize::from(place.row)];
-        if row.is_none_or(|(least, _)| cost < least) {
-            *row = Some((cost, place.column));
-        }
-    }
-
-    fn cheapest(&self) -> Option<Place> {
-        let mut best: Option<(C, Place)> = None;
-        for (row, cheapest) in self.rows.iter().enumerate() {
-            if let Some((cost, column)) = *cheapest
-                && best.is_none_or(|(least, _)| cost < least)
-            {
-                best = Some((cost, Place::new(row as u8, column)));
-            }
-        }
-        best.map(|(_, place)| place)
-    }
-
-    /// Looks through a row again, after one of its places was settled.
-    fn rescan(&mut self, row: u8, labels: &[Label<C>]) {
-        let mut best: Option<(C, u8)> = None;
-        for (column, label) in labels.iter().enumerate() {
-            if label.state == State::Reached && best.is_none_or(|(least, _)| label.cost < least) {
-                best = Some((label.cost, column as u8));
-            }
-        }
-        self.rows[usize::from(row)] = best;
-    }
+    classes: Classes<C>,
+    line: Line<C>,
+    /// For each class, from which place of the line on it is due.
+    next: Vec<u16>,
+    agenda: Agenda<C>,
+    most_turns: u16,
+    motions: Vec<u16>,
 }
 
 impl<P: Panel, C: Cost> Search<P, C> {
-    const FITS: () = assert!(size_of::<Label<C>>() <= 16);
-
     pub fn new(panel: P) -> Search<P, C> {
-        let () = Self::FITS;
-        let order = order::in_order::<C>(&panel);
-        let labels = vec![Label::UNREACHED; panel.size().places() + 1];
-        Search { panel, order, labels }
-    }
-
-    /// Settles the leg from the start to the goal, if there is one, and every part of it.
-    fn settle(&mut self, scene: Scene, start: Cursor, goal: Place) -> Option<C> {
-        let size = self.panel.size();
-        let goal = size.number(goal);
-        self.labels.fill(Label::UNREACHED);
-        let mut frontier = Frontier::EMPTY;
-        let mut here = start;
-        let mut number = numbered(size, start);
-        self.labels[number].state = State::Settled;
-        while number != goal {
-            self.scan(scene, here, number, goal, &mut frontier);
-            here = frontier.cheapest()?.resting();
-            number = numbered(size, here);
-            self.labels[number].state = State::Settled;
-            let row = number - usize::from(here.place.column);
-            frontier.rescan(here.place.row, &self.labels[row..row + usize::from(size.columns)]);
+        let places = panel.size().places();
+        let classes = Classes::new(&panel);
+        Search {
+            line: Line::new(places),
+            next: vec![0; classes.classes.len()],
+            agenda: Agenda::new(&classes.classes),
+            most_turns: MOST_TURNS,
+            motions: Vec::with_capacity(places),
+            panel,
+            classes,
         }
-        Some(self.labels[goal].cost)
     }
 
-    /// Takes the motions from a settled place, as long as they can belong to the leg.
-    fn scan(&mut self, scene: Scene, here: Cursor, number: usize, goal: usize, frontier: &mut Frontier<C>) {
-        let size = self.panel.size();
-        let so_far = self.labels[number].cost;
-        let from = number as u16;
-        let mut best = (self.labels[goal].state == State::Reached).then_some(self.labels[goal].cost);
-        for offer in &self.order {
-            let cost = so_far.plus(offer.cost());
-            if best.is_some_and(|best| cost > best) {
+    /// It may take so many turns in place of the usual number.
+    pub fn with_most_turns(self, most_turns: u16) -> Search<P, C> {
+        Search { most_turns, ..self }
+    }
+
+    /// Finds the least way to the goal, if there is one.
+    fn run(&mut self, scene: Scene, start: Cursor, goal: usize) {
+        if !self.run_in_turns(scene, start, goal) {
+            at_once::run(&self.panel, &self.classes, &mut self.line, scene, start, goal);
+        }
+    }
+
+    /// Takes classes in turns until the least way is found, or none. Tells whether there were enough turns for that.
+    fn run_in_turns(&mut self, scene: Scene, start: Cursor, goal: usize) -> bool {
+        self.line.begin(numbered(self.panel.size(), start));
+        self.next.fill(0);
+        self.agenda.begin(&self.classes.classes);
+        let mut turns: u16 = 0;
+        while let Some(due) = self.agenda.soonest() {
+            let known = self.line.label(goal);
+            if known.is_reached() && known.cost < due.cost {
                 break;
             }
-            let motion = offer.motion;
-            let Some(to) = landing(&self.panel, scene, motion, here) else {
-                continue;
-            };
-            let label = &mut self.labels[size.number(to)];
-            if label.yields_to(cost, motion, from) {
-                *label = Label {
-                    cost,
-                    motion,
-                    from,
-                    state: State::Reached,
-                };
-                frontier.add(to, cost);
-                if size.number(to) == goal {
-                    best = Some(cost);
-                }
+            if turns == self.most_turns || are_too_many(turns, self.line.count(), self.classes.classes.len())
+            {
+                return false;
             }
+            self.turn(scene, start, goal, due);
+            turns += 1;
+        }
+        true
+    }
+
+    /// Takes a class from the first state from which it is due and from all that cost the same.
+    fn turn(&mut self, scene: Scene, start: Cursor, goal: usize, due: Due<C>) {
+        let class = usize::from(due.class);
+        let known = self.line.count();
+        let first = usize::from(self.next[class]);
+        let level = self.line.cost(first);
+        let mut place = first;
+        while place < self.line.count() && self.line.cost(place) == level {
+            let state = self.line.state(place);
+            let cursor = self.cursor(start, place, state);
+            let departure = Departure {
+                state,
+                cost: due.cost,
+            };
+            if self.line.label(goal).is_reached() {
+                self.take_last(scene, class, cursor, departure, goal);
+            } else {
+                self.take(scene, class, cursor, departure, goal);
+            }
+            place += 1;
+        }
+        self.next[class] = place as u16;
+        if place < self.line.count() {
+            let cost = self.line.cost(place).plus(self.classes.classes[class].cost);
+            self.agenda.put_off(cost);
+        } else {
+            self.agenda.doze();
+        }
+        if known < self.line.count() {
+            self.agenda.wake(self.line.cost(known), &self.classes.classes);
         }
     }
 
-    /// The motions of a leg that is settled.
-    fn motions(&self, start: Cursor, goal: Place) -> Vec<u16> {
-        let size = self.panel.size();
-        let mut motions = Vec::new();
-        let mut number = size.number(goal);
-        while number != numbered(size, start) {
-            motions.push(self.labels[number].motion);
-            number = usize::from(self.labels[number].from);
+    /// The cursor of a state: the beginning comes first in the line.
+    #[inline]
+    fn cursor(&self, start: Cursor, place: usize, state: u16) -> Cursor {
+        match self.panel.size().place_at(state) {
+            Some(there) if place > 0 => there.resting(),
+            _ => start,
         }
-        motions.reverse();
-        motions
     }
+
+    /// Takes a class from a state, up to a motion that lands on the goal.
+    #[inline]
+    fn take(&mut self, scene: Scene, class: usize, cursor: Cursor, departure: Departure<C>, goal: usize) {
+        let panel = &self.panel;
+        let line = &mut self.line;
+        for &motion in self.classes.motions(class) {
+            let Some(to) = landing(panel, scene, motion, cursor) else {
+                continue;
+            };
+            let state = panel.size().number(to);
+            if state == goal {
+                line.label_mut(goal).improve(departure, motion);
+                return;
+            }
+            line.note(state, departure, motion);
+        }
+    }
+
+    /// Takes a class from a state where the goal is reached at this cost, up to the motion by which it is.
+    #[inline]
+    fn take_last(
+        &mut self,
+        scene: Scene,
+        class: usize,
+        cursor: Cursor,
+        departure: Departure<C>,
+        goal: usize,
+    ) {
+        let panel = &self.panel;
+        let known = self.line.label_mut(goal);
+        for &motion in self.classes.motions(class) {
+            if known.motion < motion {
+                return;
+            }
+            if landing(panel, scene, motion, cursor).is_some_and(|to| panel.size().number(to) == goal) {
+                known.improve(departure, motion);
+            }
+        }
+    }
+}
+
+/// Whether turns take longer than it would to take all classes at once from each of so many states.
+fn are_too_many(turns: u16, states: usize, classes: usize) -> bool {
+    turns > FEW_TURNS && usize::from(turns - FEW_TURNS) / states.max(1) > classes / TURN
 }
 
 impl<P: Panel, C: Cost> Searcher for Search<P, C> {
     fn name(&self) -> &'static str {
-        "unproved"
+        Way::Twin.name()
     }
 
-    fn leg(&mut self, scene: Scene, start: Cursor, goal: Place) -> Option<Found> {
-        let (milliseconds, bytes) = self.settle(scene, start, goal)?.parts();
-        Some(Found {
-            milliseconds,
-            bytes,
-            motions: self.motions(start, goal),
-        })
+    fn find(&mut self, scene: Scene, start: Cursor, goal: Place) -> Option<Price> {
+        self.motions.clear();
+        let size = self.panel.size();
+        let beginning = numbered(size, start);
+        let goal = size.number(goal);
+        if beginning == goal {
+            return Some(C::ZERO.price());
+        }
+        self.run(scene, start, goal);
+        let label = *self.line.label(goal);
+        if !label.is_reached() {
+            return None;
+        }
+        let first = self.line.trace(beginning, goal);
+        self.motions.extend(self.line.motions(first));
+        Some(label.cost.price())
     }
-}
 
-/// The number of a cursor: its place's, and for a held one the number of places.
-fn numbered(size: Size, cursor: Cursor) -> usize {
-    if cursor.held {
-        size.places()
-    } else {
-        size.number(cursor.place)
+    fn motions(&self) -> &[u16] {
+        &self.motions
     }
-}
-
-fn landing(panel: &impl Panel, scene: Scene, motion: u16, from: Cursor) -> Option<Place> {
-    if motion == panel.motions() {
-        retype(panel.size(), scene, from)
-    } else {
-        panel.landing(motion, from)
-    }
-}
-
-/// Where the retype lands: a column on, if the cell on the glass here has the pen now set.
-fn retype(size: Size, scene: Scene, from: Cursor) -> Option<Place> {
-    if from.held || scene.glass[size.number(from.place)].pen != scene.pen {
-        return None;
-    }
-    size.right_of(from.place, 1)
 }

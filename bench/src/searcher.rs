@@ -24,11 +24,16 @@ pub struct Scene<'a> {
     pub pen: u8,
 }
 
-#[derive(Clone, Debug, PartialEq, Eq)]
-pub struct Found {
-    /// The milliseconds, 0 where they do not count.
+/// What a leg costs: the milliseconds, 0 where they do not count, and the bytes.
+#[derive(Clone, Copy, Debug, PartialEq, Eq)]
+pub struct Price {
     pub milliseconds: u32,
     pub bytes: u16,
+}
+
+#[derive(Clone, Debug, PartialEq, Eq)]
+pub struct Found {
+    pub price: Price,
     /// The numbers of the motions, the first one first. The retype has the number after the panel's own.
     pub motions: Vec<u16>,
 }
@@ -36,13 +41,26 @@ pub struct Found {
 pub trait Searcher {
     fn name(&self) -> &'static str;
 
-    /// The leg from a cursor to a place, or that no sequence leads there.
-    fn leg(&mut self, scene: Scene, start: Cursor, goal: Place) -> Option<Found>;
+    /// Finds the leg from a cursor to a place, or that no sequence leads there.
+    fn find(&mut self, scene: Scene, start: Cursor, goal: Place) -> Option<Price>;
 
-    /// The time that finding it takes.
-    fn time(&mut self, scene: Scene, start: Cursor, goal: Place) -> Duration {
+    /// The motions of the leg that was found last.
+    fn motions(&self) -> &[u16];
+
+    fn leg(&mut self, scene: Scene, start: Cursor, goal: Place) -> Option<Found> {
+        let price = self.find(scene, start, goal)?;
+        Some(Found {
+            price,
+            motions: self.motions().to_vec(),
+        })
+    }
+
+    /// The time that it takes to find the leg so many times in a row, for one time.
+    fn time(&mut self, scene: Scene, start: Cursor, goal: Place, copies: u32) -> Duration {
         let begin = Instant::now();
-        black_box(self.leg(black_box(scene), start, goal));
-        begin.elapsed()
+        for _ in 0..copies {
+            black_box(self.find(black_box(scene), black_box(start), black_box(goal)));
+        }
+        begin.elapsed() / copies
     }
 }

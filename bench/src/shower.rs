@@ -8,7 +8,7 @@ use crate::dec::DecPanel;
 use crate::pairs::Pair;
 use crate::questions::SIZE;
 use crate::screen::Screen;
-use crate::search;
+use crate::ways::Way;
 
 /// More than any showing sends.
 pub const ROOM: usize = 1 << 16;
@@ -28,18 +28,20 @@ pub trait Shower {
     }
 }
 
-/// The unproved screen on a deferred-wrap panel.
+/// The unproved screen on a deferred-wrap panel, by one of the unproved searches.
 pub struct Unproved {
+    pub way: Way,
     pub kind: Kind,
 }
 
 impl Shower for Unproved {
     fn name(&self) -> &'static str {
-        "unproved"
+        self.way.name()
     }
 
     fn show(&mut self, pair: &Pair, refreshes: usize) -> Vec<u8> {
-        let mut screen = Screen::new(DecPanel { size: SIZE }, search::on_dec_panel(self.kind, SIZE));
+        let panel = DecPanel { size: SIZE };
+        let mut screen = Screen::new(panel, self.way.by(self.kind, panel));
         let mut output = vec![0; ROOM];
         let mut sent = screen.redraw(&pair.first.cells, pair.first.rest, &mut output);
         for picture in [&pair.second, &pair.first].into_iter().cycle().take(refreshes) {

@@ -5,7 +5,7 @@ use crate::dec::DecPanel;
 use crate::place::{Cursor, Place};
 use crate::questions::{SIZE, blank_glass};
 use crate::searcher::{Scene, Searcher};
-use crate::sending::sent;
+use crate::sending::send;
 
 #[derive(Debug)]
 pub struct Worked {
@@ -63,7 +63,9 @@ impl Worked {
         let panel = DecPanel { size: SIZE };
         let found = searcher.leg(scene, self.start, self.goal);
         found.is_some_and(|found| {
-            sent(&panel, scene, self.start, &found.motions).as_deref() == Some(self.bytes)
+            let mut bytes = Vec::new();
+            let end = send(&panel, scene, self.start, &found.motions, &mut bytes);
+            end == Some(self.goal.resting()) && bytes == self.bytes
         })
     }
 }

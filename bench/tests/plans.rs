@@ -9,13 +9,15 @@ use legs_bench::place::{Place, Size};
 use legs_bench::plan::{Plan, Stand, plan, runs};
 use legs_bench::questions::{SIZE, blank_glass};
 use legs_bench::screen::{Refusal, Screen};
-use legs_bench::search::{self, Search};
+use legs_bench::search::Search;
 use legs_bench::searcher::Cell;
+use legs_bench::ways::Way;
 
 const FIRST: Place = Place::new(0, 0);
 
 fn screen(kind: Kind) -> Screen<DecPanel> {
-    Screen::new(DecPanel { size: SIZE }, search::on_dec_panel(kind, SIZE))
+    let panel = DecPanel { size: SIZE };
+    Screen::new(panel, Way::Twin.by(kind, panel))
 }
 
 /// A blank picture but for some letters in a pen, from a place on.

@@ -22,8 +22,8 @@ impl Panel for Leftward {
         from.place.left_of(1)
     }
 
-    fn bytes(&self, _: u16) -> Vec<u8> {
-        vec![0x08]
+    fn spell(&self, _: u16, bytes: &mut Vec<u8>) {
+        bytes.push(0x08);
     }
 
     fn milliseconds(&self, _: u16) -> u16 {
