@@ -17,6 +17,9 @@ use panel::bytes::ShortBytes;
 use panel_model::kind::Kind;
 use panel_model::model::Model;
 
+// where the interfaces are met, once for every kind
+pub use panel_model::model::{panel_impl, readout};
+
 // The kind.
 pub struct Dec;
 

@@ -1,5 +1,6 @@
 // The motions of the panel, which have numbers: where they land, their bytes, and how long they take.
 ghost use Rattle.std.specs.Prelude.{◌≡◌, ◌<◌, ◌≤◌, ◌++◌, length, take, decimal};
+ghost use Rattle.panel.specs.Bytes.{bytes_of};
 ghost use Rattle.dec_rules.specs.Directions.{backward, steps, upright};
 ghost use Rattle.dec_rules.specs.Motions.{numbered as numbers, offered as offers, relative as relatively, spelled as spells, takes as lasts};
 
@@ -122,7 +123,7 @@ impl Moves for Motion {
 #[tactic(auto, using(crate::proofs::Digits::one_digit, crate::proofs::Digits::two_digits, crate::proofs::Digits::three_digits))]
 fn push_decimal(bytes: &mut ShortBytes, n: u16)
     requires { n < 1000 }
-    ensures is { bytes.new ≡ take 16 (bytes.old ++ decimal n) }
+    ensures is { bytes_of bytes.new ≡ take 16 (bytes_of bytes.old ++ decimal n) }
     ensures short { length (decimal n) ≤ 3 }
 {
     let hundreds = b'0' + (n / 100) as u8;
@@ -139,7 +140,7 @@ fn push_decimal(bytes: &mut ShortBytes, n: u16)
 
 // ESC [, a count that is left out where it is 1, and a letter.
 fn relative(n: u8, letter: u8) -> ShortBytes
-    ensures { result ≡ relatively n letter }
+    ensures { bytes_of result ≡ relatively n letter }
 {
     let mut bytes = ShortBytes::from_slice(b"\x1B[");
     if n != 1 {
@@ -151,7 +152,7 @@ fn relative(n: u8, letter: u8) -> ShortBytes
 
 // ESC [ row ; column H, both counted from 1.
 fn address(place: Place) -> ShortBytes
-    ensures { result ≡ spells (Motion.Address place) }
+    ensures { bytes_of result ≡ spells (Motion.Address place) }
 {
     let mut bytes = ShortBytes::from_slice(b"\x1B[");
     push_decimal(&mut bytes, place.row as u16 + 1);

@@ -6,6 +6,7 @@ ghost use Rattle.leg_search.specs.Sending.{Lengths, Writes};
 ghost use Rattle.legs.specs.Scene.{motion_sent, sent, steps};
 ghost use Rattle.legs.specs.Seen.{scened};
 ghost use Rattle.legs.specs.Sequence.{sequence};
+ghost use Rattle.panel.specs.Bytes.{bytes_of};
 
 use cost::cost::Cost;
 use display::cell::Cell;
@@ -21,7 +22,8 @@ pub fn motion_bytes<P: Panel, C: Cell>(
     cursor: Option<Cursor>,
     motion: u16,
 ) -> ShortBytes
-    ensures { result ≡ option_map_or (λ d. motion_sent (scened P.answers C.glyph scene.now) d motion) cursor [] }
+    ensures { bytes_of result
+        ≡ option_map_or (λ d. motion_sent (scened P.answers C.glyph scene.now) d motion) cursor [] }
 {
     match cursor {
         Some(cursor) => scene.motion_bytes(motion, cursor),

@@ -2,6 +2,7 @@
 ghost use Rattle.std.specs.Prelude.{◌≡◌};
 ghost use Rattle.legs.specs.Scene.{lands, motion_sent, retype};
 ghost use Rattle.legs.specs.Seen.{scened};
+ghost use Rattle.panel.specs.Bytes.{bytes_of};
 
 use crate::glass::Glass;
 use display::cell::Cell;
@@ -44,7 +45,7 @@ impl<'a, P: Panel, C: Cell> Scene<'a, P, C> {
 
     // The bytes of a motion that is taken from a cursor.
     pub fn motion_bytes(&self, motion: u16, cursor: Cursor) -> ShortBytes
-        ensures { result ≡ motion_sent (scened P.answers C.glyph self.now) cursor motion }
+        ensures { bytes_of result ≡ motion_sent (scened P.answers C.glyph self.now) cursor motion }
     {
         if motion == self.panel.motions() {
             let number = self.panel.size().number(cursor.place);

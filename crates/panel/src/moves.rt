@@ -2,6 +2,7 @@
 // motion, and is no part of it: it is the panel's, and a panel asks.
 ghost use Rattle.std.specs.Prelude.{◌≡◌, ℕ, List, [], IfSome, None, Option};
 ghost use Rattle.panel.specs.Answers.{answered};
+ghost use Rattle.panel.specs.Bytes.{bytes_of};
 ghost use Rattle.display.specs.declared.size.Size.{Size as Sized};
 ghost use Rattle.display.specs.declared.place.Cursor.{Cursor as Cursors};
 ghost use Rattle.display.specs.declared.place.Place.{Place as Places};
@@ -36,7 +37,7 @@ pub trait Moves: Copy {
     // Its bytes, on a panel of a size that has it.
     fn bytes(self, size: Size) -> ShortBytes
         requires { Reaches size self }
-        ensures { result ≡ spelled self };
+        ensures { bytes_of result ≡ spelled self };
 
     // The milliseconds that it takes.
     fn milliseconds(self) -> u16
@@ -52,7 +53,7 @@ pub fn landing<M: Moves>(size: Size, number: u16, cursor: Cursor) -> Option<Plac
 
 // The bytes of the motion with a number, and none where there is no such motion, as the rules say and no option does.
 pub fn bytes<M: Moves>(size: Size, number: u16) -> ShortBytes
-    ensures { result ≡ answered [] M.spelled (M.numbered size number) }
+    ensures { bytes_of result ≡ answered [] M.spelled (M.numbered size number) }
 {
     M::with_number(size, number).map_or(ShortBytes::new(), |motion| motion.bytes(size))
 }

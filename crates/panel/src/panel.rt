@@ -1,6 +1,7 @@
 // The interface of a panel.
 ghost use Rattle.std.specs.Prelude.{◌≡◌, ℕ};
 ghost use Rattle.panel.specs.Answers.{Answers};
+ghost use Rattle.panel.specs.Bytes.{bytes_of};
 ghost use Rattle.panel.specs.Lawful.{Lawful, Sound};
 ghost use Rattle.panel.specs.Meaning.{Meaning};
 
@@ -43,7 +44,7 @@ pub trait Panel {
         ensures { result ≡ (answers self.now).lands motion cursor };
 
     fn motion_bytes(&self, motion: u16) -> ShortBytes
-        ensures { result ≡ (answers self.now).motion_bytes motion };
+        ensures { bytes_of result ≡ (answers self.now).motion_bytes motion };
 
     // The milliseconds that a motion takes.
     fn delay(&self, motion: u16) -> u16
@@ -54,10 +55,10 @@ pub trait Panel {
         ensures { result ≡ (answers self.now).after place };
 
     fn pen_bytes(&self, pen: u8) -> ShortBytes
-        ensures { result ≡ (answers self.now).pen_bytes pen };
+        ensures { bytes_of result ≡ (answers self.now).pen_bytes pen };
 
     fn wipe_bytes(&self) -> ShortBytes
-        ensures { result ≡ (answers self.now).wipe };
+        ensures { bytes_of result ≡ (answers self.now).wipe };
 
     fn feed(&mut self, byte: u8)
         ensures fixed { answers self.new ≡ answers self.old }

@@ -3,6 +3,7 @@
 ghost use Rattle.std.specs.Prelude.{◌≡◌, ℕ, Bool, false, Decides};
 ghost use Rattle.display.specs.declared.size.Size.{Size as Sizes};
 ghost use Rattle.panel.specs.Answers.{Answers};
+ghost use Rattle.panel.specs.Bytes.{bytes_of};
 ghost use Rattle.panel.specs.Lawful.{Lawful};
 ghost use Rattle.panel.specs.Meaning.{Meaning, of};
 ghost use Rattle.panel_model.specs.Tied.{Tied};
@@ -52,10 +53,10 @@ pub trait Kind {
         ensures { result ≡ (answers size).after place };
 
     fn pen_bytes(pen: u8) -> ShortBytes
-        ensures { (z : Sizes) → result ≡ (answers z).pen_bytes pen };
+        ensures { (z : Sizes) → bytes_of result ≡ (answers z).pen_bytes pen };
 
     fn wipe_bytes() -> ShortBytes
-        ensures { (z : Sizes) → result ≡ (answers z).wipe };
+        ensures { (z : Sizes) → bytes_of result ≡ (answers z).wipe };
 
     // Asked of the kind: `==` at a type parameter does not say that two reading states are the same, and a law that it
     // does would stand in each kind in the same place.

@@ -2,6 +2,7 @@
 ghost use Rattle.std.specs.Prelude.{◌≡◌, ◌≤◌, Decides, length, map};
 ghost use Rattle.display.specs.Place.{On};
 ghost use Rattle.faults.specs.declared.fault.Fault.TheVariants.{Outside};
+ghost use Rattle.panel.specs.Bytes.{bytes_of};
 ghost use Rattle.planning.specs.Enough.{Enough};
 ghost use Rattle.planning.specs.Planned.{Plans};
 ghost use Rattle.planning.specs.Tried.{Tries, WalksAhead};
@@ -78,7 +79,7 @@ fn write_plan<P: Panel, C: Cell, K: Cost>(
     ensures labels { length labels.new ≡ length labels.old }
     ensures size { length output.new ≡ length output.old }
     ensures walks { WalksAhead K.costs (P.answers charted.now) (map C.glyph pictures.entry.shown.now)
-        (map C.glyph pictures.entry.wanted.now) rest start head output.old output.new result }
+        (map C.glyph pictures.entry.wanted.now) rest start (bytes_of head) output.old output.new result }
 {
     let count = pour(output, 0, head.as_slice());
     walk(charted, pictures, start, rest, labels, output, count)
@@ -101,7 +102,7 @@ fn try_plan<P: Panel, C: Cell, K: Cost>(
     requires rest { On (P.answers charted.now).size rest }
     ensures labels { length labels.new ≡ length labels.old }
     ensures tries { Tries K.costs (P.answers charted.now) (map C.glyph pictures.entry.shown.now)
-        (map C.glyph pictures.entry.wanted.now) rest start head output.old output.new result }
+        (map C.glyph pictures.entry.wanted.now) rest start (bytes_of head) output.old output.new result }
 {
     let room = output.len().min(PUT_BY);
     let mut saved = [0; PUT_BY];
@@ -139,8 +140,8 @@ pub fn send_plan<P: Panel, C: Cell, K: Cost>(
     labels: &mut [Label<K>],
     output: &mut [u8],
 ) -> Result<Sent, Fault>
-    ensures { Plans K.costs (P.answers charted.now) C.glyph pictures.entry.shown.now pictures.entry.wanted.now head
-        start rest labels.old labels.new output.old output.new result }
+    ensures { Plans K.costs (P.answers charted.now) C.glyph pictures.entry.shown.now pictures.entry.wanted.now
+        (bytes_of head) start rest labels.old labels.new output.old output.new result }
 {
     let size = charted.panel().size();
     if !is_enough(size, labels.len(), pictures.wanted.len()) {

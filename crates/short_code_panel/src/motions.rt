@@ -1,5 +1,6 @@
 // The motions: their numbers, where they land, their bytes, and how long they take.
 ghost use Rattle.std.specs.Prelude.{◌≡◌};
+ghost use Rattle.panel.specs.Bytes.{bytes_of};
 ghost use Rattle.short_code_panel.specs.Motions;
 ghost use Rattle.short_code_panel.specs.Rules.{after};
 
@@ -97,7 +98,7 @@ pub(crate) fn after_code(size: Size, place: Place) -> Cursor
 
 // 0Eh sets pen 1, 0Fh pen 0.
 pub(crate) fn of_pen(pen: u8) -> ShortBytes
-    ensures { result ≡ Motions.pen_bytes pen }
+    ensures { bytes_of result ≡ Motions.pen_bytes pen }
 {
     ShortBytes::from_slice(if pen == 0 { b"\x0F" } else { b"\x0E" })
 }

@@ -15,6 +15,9 @@ use panel::bytes::ShortBytes;
 use panel_model::kind::{Kind, NeverHolds};
 use panel_model::model::Model;
 
+// where the interfaces are met, once for every kind
+pub use panel_model::model::{panel_impl, readout};
+
 // The kind.
 pub struct Sticking;
 

@@ -1,7 +1,7 @@
 // The table.
 ghost use Rattle.std.specs.Prelude.{◌≡◌, Some, take};
 ghost use Rattle.worked_legs.specs.Established.{Worked};
-ghost use Rattle.worked_legs.specs.Table.{row};
+ghost use Rattle.worked_legs.specs.Table.{row, row_of};
 
 use crate::row::CostKind::{Bytes, Line};
 use crate::row::PanelKind::{Deferred, ShortCode, Sticking};
@@ -45,7 +45,7 @@ pub fn worked_legs() -> [WorkedLeg; 8]
 
 // A row with the bytes of a leg, of which it has sixteen at most.
 fn leg(panel: PanelKind, cost: CostKind, start: Cursor, goal: Place, bytes: &[u8]) -> WorkedLeg
-    ensures { result ≡ row panel cost start goal (Some (take 16 bytes.now)) }
+    ensures { row_of result ≡ row panel cost start goal (Some (take 16 bytes.now)) }
 {
     WorkedLeg {
         panel,

@@ -15,10 +15,10 @@ returns c =
     let begin : List ℕ = 27 ∷ 91 ∷ [] in
     let semi : List ℕ = 59 ∷ [] in
     let last : List ℕ = 72 ∷ [] in
-    let e1 = capped_more 16 begin r _ c.push_decimal.new.bytes c.from_slice-bytes.ensures c.push_decimal.ensures.is in
-    let e2 = capped_more 16 (begin ++ r) semi _ c.push.new.self e1 c.push.ensures in
-    let e3 = capped_more 16 ((begin ++ r) ++ semi) k _ c.push_decimal-2.new.bytes e2 c.push_decimal-2.ensures.is in
+    let e1 = capped_more 16 begin r _ _ c.from_slice-bytes.ensures c.push_decimal.ensures.is in
+    let e2 = capped_more 16 (begin ++ r) semi _ _ e1 c.push.ensures in
+    let e3 = capped_more 16 ((begin ++ r) ++ semi) k _ _ e2 c.push_decimal-2.ensures.is in
     let joined : (((begin ++ r) ++ semi) ++ k) ++ last ≡ spelled (Address p) = simp append_assoc in
-    capped_more 16 (((begin ++ r) ++ semi) ++ k) last _ c.push-2.new.self e3 c.push-2.ensures
+    capped_more 16 (((begin ++ r) ++ semi) ++ k) last _ _ e3 c.push-2.ensures
     ∙ ap (take 16) joined
     ∙ take_all 16 (spelled (Address p)) (address_short p (omega arith) (omega arith)).1

@@ -1,5 +1,6 @@
 -- A redraw is refused or accepted as its plan is, and the panel faces the wanted picture then.
 use Rattle.std.proofs.Common.{rules}
+use Rattle.panel.specs.Bytes.{bytes_of}
 use Rattle.screen.proofs.Faced.{redraw_faces}
 use Rattle.screen.proofs.Redraw.{redraw_accepted, redraw_refused}
 use Rattle.screen.proofs.Refused.{check_refused}
@@ -16,7 +17,7 @@ returns-in_err-sent-clause-outcome g c =
     redraw_refused g.K.Cost.costs g.P.Panel.answers g.P.Panel.meaning g.P.Panel.fed g.C.Cell.admits g.C.Cell.glyph
     c.args.self.now c.args.wanted.now c.args.shown.now c.args.labels.now c.send_plan.new.labels c.args.output.now
     c.send_plan.new.output _ _ _ _ c.self.view_is c.self.invariant
-    (record { place = c.default.result; pen = 0 }) (search rules) c.wipe_bytes-head.result
+    (record { place = c.default.result; pen = 0 }) (search rules) (bytes_of c.wipe_bytes-head.result)
     (search rules) c.in_ok-check.ensures c.from_residual-in_err-sent.result c.in_err-sent.field-0.0
     (search rules) c.in_err-sent.ensures
 
@@ -25,7 +26,7 @@ returns-clause-outcome g c =
     redraw_accepted g.K.Cost.costs g.P.Panel.answers g.P.Panel.meaning g.P.Panel.fed g.C.Cell.admits g.C.Cell.glyph
     c.args.self.now c.args.wanted.now c.args.shown.now c.args.labels.now c.send_plan.new.labels c.args.output.now
     c.send_plan.new.output _ _ _ _ c.self.view_is c.self.invariant
-    (record { place = c.default.result; pen = 0 }) (search rules) c.wipe_bytes-head.result
+    (record { place = c.default.result; pen = 0 }) (search rules) (bytes_of c.wipe_bytes-head.result)
     (search rules) c.in_ok-check.ensures c.accept.new.shown c.in_ok-sent.sent c.accept.new.self c.accept.result
     c.in_ok-sent.ensures c.accept.ensures
 
