@@ -10,8 +10,7 @@ use Rattle.display.specs.declared.place.Place.{Place}
 use Rattle.display.specs.declared.size.Size.{Size}
 use Rattle.display.proofs.Codes.{decides_all_printed}
 use Rattle.canvas.specs.Drawing.{cleared, goto, line_fed, new_line, onward, went}
-use Rattle.canvas.specs.Held.{Placed, surface}
-use Rattle.canvas.specs.declared.canvas.Canvas.TheInside.{Inside}
+use Rattle.canvas.specs.Held.{Whole}
 use Rattle.canvas.proofs.Within.{all_blank, within_drawn, within_line_fed}
 
 pub wiped_fits : (P : ℕ) (z : Size) → 0 < P → Fits P z (wiped z)
@@ -48,10 +47,9 @@ module _ (P : ℕ) (z : Size) (s : Surface) (k : Fits P z s) where
 pub fits_new_line : (P : ℕ) (z : Size) (s : Surface) → Fits P z s → Fits P z (new_line s)
 fits_new_line P z s k = search (rules, fits_line_fed, fits_goto)
 
--- what a canvas holds fits, where its pen and the pens of its cells are below P
-pub fits_canvas : (P : ℕ) (c : Inside) → Placed c → (surface c).pen < P → all_printed P (surface c).picture ≡ true
-    → Fits P c.size (surface c)
-fits_canvas P c at pen cells = search (rules, decides_all_printed)
+-- what a canvas holds, which every canvas tells to be whole, fits, where its pen and the pens of its cells are below P
+pub fits_canvas : (P : ℕ) (s : Surface) → Whole s → s.pen < P → all_printed P s.picture ≡ true → Fits P s.size s
+fits_canvas P s whole pen cells = search (rules, decides_all_printed)
 
 -- what a model keeps of its canvas, as tests
 pub record Stays (P : ℕ) (z : Size) (s : Surface) : Type 0 where

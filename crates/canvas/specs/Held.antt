@@ -1,7 +1,8 @@
 -- What a canvas holds.
 --     surface c      the surface that the canvas c holds
 --     Placed c       its picture fills the panel, and its cursor is on the panel
-use Rattle.std.specs.Prelude.{◌≡◌, ◌*◌, vec_items, vec_len}
+--     Whole s        the same of a surface
+use Rattle.std.specs.Prelude.{◌≡◌, ◌*◌, length, vec_items, vec_len}
 use Rattle.display.specs.Place.{On}
 use Rattle.display.specs.Surface.{Surface}
 use Rattle.canvas.specs.declared.canvas.Canvas.TheInside.{Inside}
@@ -12,3 +13,7 @@ surface c = record { size = c.size; picture = vec_items c.cells; cursor = c.curs
 pub record Placed (c : Inside) : Type 0 where
   pub filled : vec_len c.cells ≡ c.size.rows * c.size.columns
   pub on : On c.size c.cursor.place
+
+pub record Whole (s : Surface) : Type 0 where
+  pub filled : length s.picture ≡ s.size.rows * s.size.columns
+  pub on : On s.size s.cursor.place

@@ -2,6 +2,7 @@
 ghost use Rattle.std.specs.Prelude.{◌≡◌, ◌+◌, ◌<◌, Decides};
 ghost use Rattle.display.specs.Surface.{drawn, inked, moved, wiped};
 ghost use Rattle.canvas.specs.Drawing.{cleared, goto, holding, line_fed, new_line, onward, scrolled, went};
+ghost use Rattle.canvas.specs.Held.{Whole};
 
 use super::Canvas;
 use display::cell::Glyph;
@@ -10,7 +11,8 @@ use display::place::{Cursor, Place};
 impl Canvas {
     // Moves the cursor, unheld, to a row and a column, or to the edge where they lie beyond it.
     pub fn move_to(&mut self, row: usize, column: usize)
-        ensures { self.new ≡ goto self.old row column }
+        ensures after { self.new ≡ goto self.old row column }
+        ensures whole { Whole self.new }
     {
         let last_row = self.size.rows - 1;
         let last_column = self.size.columns - 1;
@@ -21,8 +23,11 @@ impl Canvas {
 
     // Moves the cursor, unheld, to a place, if there is one to go to.
     pub fn step(&mut self, to: Option<Place>)
-        ensures { self.new ≡ went self.old to }
+        ensures after { self.new ≡ went self.old to }
+        ensures whole { Whole self.new }
     {
+        // read for the proof: a canvas that stays is whole too
+        let _ = &self.size;
         if let Some(place) = to {
             self.move_to(place.row as usize, place.column as usize);
         }
@@ -30,14 +35,16 @@ impl Canvas {
 
     // Marks the cursor as held where it stands.
     pub fn hold(&mut self)
-        ensures { self.new ≡ holding self.old }
+        ensures after { self.new ≡ holding self.old }
+        ensures whole { Whole self.new }
     {
         self.cursor.held = true;
     }
 
     // Sets the cell at the cursor to a code and the pen now set.
     pub fn draw(&mut self, code: u8)
-        ensures { self.new ≡ drawn self.old code }
+        ensures after { self.new ≡ drawn self.old code }
+        ensures whole { Whole self.new }
     {
         let pen = self.pen;
         let at = self.size.number(self.cursor.place);
@@ -46,7 +53,8 @@ impl Canvas {
 
     // Moves the cursor a row down, unheld. On the last row the picture moves up a row in its place.
     pub fn line_feed(&mut self)
-        ensures { self.new ≡ line_fed self.old }
+        ensures after { self.new ≡ line_fed self.old }
+        ensures whole { Whole self.new }
     {
         self.cursor.held = false;
         if self.cursor.place.row + 1 < self.size.rows {
@@ -58,7 +66,8 @@ impl Canvas {
 
     // Moves the cursor to column 0 of the next row, unheld. On the last row the picture moves up a row in its place.
     pub fn new_line(&mut self)
-        ensures { self.new ≡ new_line self.old }
+        ensures after { self.new ≡ new_line self.old }
+        ensures whole { Whole self.new }
     {
         self.move_to(self.cursor.place.row as usize, 0);
         self.line_feed();
@@ -70,6 +79,7 @@ impl Canvas {
             ≡ onward self.old self.old }
         ensures told { Decides result
             (self.old.cursor.place.column + 1 < self.old.size.columns) }
+        ensures whole { Whole self.new }
     {
         let column = self.cursor.place.column + 1;
         if column < self.size.columns {
@@ -92,8 +102,9 @@ impl Canvas {
 
     // Blanks every cell and leaves the cursor where it stands, unheld.
     pub fn clear(&mut self)
-        ensures { self.new
+        ensures after { self.new
             ≡ moved (cleared self.old) self.old.cursor.place }
+        ensures whole { Whole self.new }
     {
         self.blank_cells();
         self.cursor = Cursor::from(self.cursor.place);
@@ -101,7 +112,8 @@ impl Canvas {
 
     // Blanks every cell, moves the cursor to the first place, unheld, and sets pen 0.
     pub fn wipe(&mut self)
-        ensures { self.new ≡ wiped self.old.size }
+        ensures after { self.new ≡ wiped self.old.size }
+        ensures whole { Whole self.new }
     {
         self.blank_cells();
         self.cursor = Cursor::default();
@@ -116,7 +128,8 @@ impl Canvas {
 
     // Sets the pen.
     pub fn set_pen(&mut self, pen: u8)
-        ensures { self.new ≡ inked self.old pen }
+        ensures after { self.new ≡ inked self.old pen }
+        ensures whole { Whole self.new }
     {
         self.pen = pen;
     }

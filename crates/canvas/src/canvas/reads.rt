@@ -2,6 +2,7 @@
 ghost use Rattle.std.specs.Prelude.{◌≡◌, ◌*◌, ◌<◌, IfOk, length, vec_len};
 ghost use Rattle.display.specs.Place.{On, number};
 ghost use Rattle.display.specs.Surface.{Told, wiped};
+ghost use Rattle.canvas.specs.Held.{Whole};
 
 use super::Canvas;
 use display::cell::Glyph;
@@ -24,7 +25,8 @@ impl Canvas {
     }
 
     pub fn size(&self) -> Size
-        ensures { result ≡ self.now.size }
+        ensures is { result ≡ self.now.size }
+        ensures whole { Whole self.now }
     {
         self.size
     }
@@ -32,12 +34,14 @@ impl Canvas {
     pub fn cursor(&self) -> Cursor
         ensures is { result ≡ self.now.cursor }
         ensures on { On self.now.size result.place }
+        ensures whole { Whole self.now }
     {
         self.cursor
     }
 
     pub fn pen(&self) -> u8
-        ensures { result ≡ self.now.pen }
+        ensures is { result ≡ self.now.pen }
+        ensures whole { Whole self.now }
     {
         self.pen
     }
@@ -47,13 +51,15 @@ impl Canvas {
         ensures is { result.now ≡ self.now.picture }
         ensures filled { length result.now
             ≡ self.now.size.rows * self.now.size.columns }
+        ensures whole { Whole self.now }
     {
         &self.cells
     }
 
     // The glyph at a place, or nothing where there is no such place.
     pub fn glyph(&self, place: Place) -> Option<Glyph>
-        ensures { Told self.now place result }
+        ensures is { Told self.now place result }
+        ensures whole { Whole self.now }
     {
         let place = self.size.place(place.row as usize, place.column as usize)?;
         Some(self.cells[self.size.number(place)])
