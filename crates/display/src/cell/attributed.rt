@@ -2,10 +2,21 @@ ghost use Rattle.display.specs.Cell.{attributed_admits};
 ghost use Rattle.std.proofs.Common.{rules};
 
 use super::{Cell, Glyph, is_printable};
+use std::fmt;
 
 // A cell that admits every pen: a glyph.
-#[derive(Clone, Copy, Debug, PartialEq, Eq)]
+#[derive(Clone, Copy, PartialEq, Eq)]
 pub struct Attributed(Glyph);
+
+// As its code and its pen, by their names.
+impl fmt::Debug for Attributed {
+    fn fmt<W: fmt::Write>(&self, f: &mut fmt::Formatter<W>) -> fmt::Result {
+        f.debug_struct("Attributed")
+            .field("code", &self.0.code)
+            .field("pen", &self.0.pen)
+            .finish()
+    }
+}
 
 impl Cell for Attributed {
     ghost glyph = { λ c. c.0 };

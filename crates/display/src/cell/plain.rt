@@ -2,10 +2,18 @@ ghost use Rattle.display.specs.Cell.{glyph_of, plain_admits};
 ghost use Rattle.std.proofs.Common.{rules};
 
 use super::{Cell, is_printable};
+use std::fmt;
 
 // A cell that admits pen 0 only: a code.
-#[derive(Clone, Copy, Debug, PartialEq, Eq)]
+#[derive(Clone, Copy, PartialEq, Eq)]
 pub struct Plain(u8);
+
+// As its code, by its name.
+impl fmt::Debug for Plain {
+    fn fmt<W: fmt::Write>(&self, f: &mut fmt::Formatter<W>) -> fmt::Result {
+        f.debug_struct("Plain").field("code", &self.0).finish()
+    }
+}
 
 impl Cell for Plain {
     ghost glyph = { λ c. glyph_of c.0 0 };
