@@ -28,28 +28,51 @@ struct Wanted {
     leg: Option<LegRequest>,
 }
 
-// The panel and the leg that some words ask for, or nothing where they do not ask for one.
-fn asked(words: &[String]) -> Option<Wanted> {
+// The panel and the leg that the first seven words ask for, or nothing where they do not ask for one.
+fn asked(words: [Option<&str>; 7]) -> Option<Wanted> {
     match words {
-        [] => Some(Wanted {
+        [None, ..] => Some(Wanted {
             panel: asked_panel("D", "24", "80")?,
             leg: None,
         }),
-        [kind, rows, columns] => Some(Wanted {
+        [Some(kind), Some(rows), Some(columns), None, ..] => Some(Wanted {
             panel: asked_panel(kind, rows, columns)?,
             leg: None,
         }),
-        [kind, rows, columns, cost, row, column] => Some(Wanted {
-            panel: asked_panel(kind, rows, columns)?,
-            leg: Some(asked_leg(cost, row, column)?),
-        }),
+        [
+            Some(kind),
+            Some(rows),
+            Some(columns),
+            Some(cost),
+            Some(row),
+            Some(column),
+            None,
+        ] => {
+            Some(Wanted {
+                panel: asked_panel(kind, rows, columns)?,
+                leg: Some(asked_leg(cost, row, column)?),
+            })
+        }
         _ => None,
     }
 }
 
+// The words are taken one by one: no second list of them is made, which memory might not do for.
 fn read_arguments(rt: &HostRuntime) -> anyhow::Result<Wanted> {
-    let words: Vec<String> = env::args(rt)?.skip(1).collect(rt.alloc())?;
-    asked(&words).ok_or_else(|| anyhow!(USAGE))
+    let mut words = env::args(rt)?.skip(1);
+    let (kind, rows, columns) = (words.next(), words.next(), words.next());
+    let (cost, row, column) = (words.next(), words.next(), words.next());
+    let more = words.next();
+    asked([
+        kind.as_deref(),
+        rows.as_deref(),
+        columns.as_deref(),
+        cost.as_deref(),
+        row.as_deref(),
+        column.as_deref(),
+        more.as_deref(),
+    ])
+    .ok_or_else(|| anyhow!(USAGE))
 }
 
 // All of standard input, unless it is longer than the limit.
@@ -68,7 +91,9 @@ fn read_input(rt: &HostRuntime) -> anyhow::Result<Vec<u8>> {
     Ok(input)
 }
 
-// The text of a leg on a panel, by one type of cost.
+// The text of a leg on a panel, by one type of cost. Not inlined: what a search lays on the stack is to be there only
+// where a leg is asked for.
+#[inline(never)]
 fn leg_by<P: Readout + Drop, K: Worded>(
     rt: &HostRuntime,
     panel: P,

@@ -1,3 +1,4 @@
+pub mod Asks
 pub mod Cells
 pub mod Cut
 pub mod Digits

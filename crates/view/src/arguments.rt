@@ -3,11 +3,10 @@ ghost use Rattle.std.specs.Prelude.{◌≡◌, MatchOption};
 ghost use Rattle.view.specs.Arguments.{Asked, Reads};
 ghost use Rattle.display.specs.declared.size.Size.{Size as Sized};
 
-use crate::requests::{Kind, asked_panel};
 use display::size::Size;
 
 // The size that rows and columns ask for, or nothing where they do not ask for one.
-pub(crate) fn read_size(rows: &str, columns: &str) -> Option<Size>
+fn read_size(rows: &str, columns: &str) -> Option<Size>
     ensures { MatchOption result
         ((z : Sized) → Reads rows.now z.rows → Reads columns.now z.columns → ⊥)
         (λ z. Reads rows.now z.rows × Reads columns.now z.columns) }
@@ -22,6 +21,9 @@ pub(crate) fn read_size(rows: &str, columns: &str) -> Option<Size>
 pub fn asked_size(kind: &str, rows: &str, columns: &str) -> Option<Size>
     ensures { MatchOption result ((z : Sized) → Asked kind.now rows.now columns.now z → ⊥) (Asked kind.now rows.now columns.now) }
 {
-    let request = asked_panel(kind, rows, columns)?;
-    (request.kind == Kind::DeferredWrap).then_some(request.size)
+    // the word for the kind is tried first: the others may be long
+    if kind != "D" {
+        return None;
+    }
+    read_size(rows, columns)
 }

@@ -9,6 +9,10 @@ use panel::feeding::feed_all;
 use panel::readout::Readout;
 use std::alloc::{AllocError, Global};
 
+// How many bytes the lines behind the rows have, at the most: "at 23 79 held", "pen bold underscore blink reverse", and
+// "reading", each with its end.
+const LINES: usize = 56;
+
 // What a panel shows after `read` bytes: the picture row by row, the cursor, the pen, and whether a sequence is half
 // read.
 pub fn report<P: Readout>(heap: Global, panel: &P, read: usize) -> Result<Vec<u8>, AllocError>
@@ -18,6 +22,8 @@ pub fn report<P: Readout>(heap: Global, panel: &P, read: usize) -> Result<Vec<u8
     let size = panel.size();
     let picture = read_picture(heap, panel)?;
     let mut out = format!(in heap; "read {read}\n")?.into_bytes();
+    // room for the rows and the lines behind them: a text that grows is held twice meanwhile
+    out.reserve_exact(size.places() + 3 * size.rows as usize + LINES)?;
     append_rows(&mut out, &picture, size, |glyph| glyph.code)?;
     if !is_plain(&picture) {
         append_rows(&mut out, &picture, size, pen_digit)?;

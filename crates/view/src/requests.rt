@@ -3,7 +3,7 @@ ghost use Rattle.std.specs.Prelude.{◌≡◌, ◌≢◌, MatchOption, MatchResu
 ghost use Rattle.view.specs.Requests.{Requested};
 ghost use Rattle.view.specs.declared.requests.Request.{Request as Requests};
 
-use crate::arguments::read_size;
+use crate::arguments::asked_size;
 use display::size::Size;
 use std::error::Error;
 use std::fmt;
@@ -71,6 +71,6 @@ pub fn asked_panel(kind: &str, rows: &str, columns: &str) -> Option<Request>
         (Requested kind.now rows.now columns.now) }
 {
     let kind = kind.parse::<Kind>().ok()?;
-    let size = read_size(rows, columns)?;
+    let size = asked_size("D", rows, columns)?;
     Some(Request { kind, size })
 }

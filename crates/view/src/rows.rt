@@ -1,11 +1,13 @@
 // The rows of a picture.
 ghost use Rattle.std.specs.Prelude.{◌≡◌, ℕ, ◌*◌, ◌++◌, IfOk, OnOk, length, slice_index_or};
 ghost use Rattle.display.specs.Cell.{blank};
+ghost use Rattle.display.specs.Place.{On, number};
 ghost use Rattle.display.specs.Surface.{Surface};
 ghost use Rattle.display.specs.declared.cell.Glyph.{Glyph as Cell};
 ghost use Rattle.view.specs.Report.{pen_digit, plain, rows_of};
 
 use display::cell::Glyph;
+use display::place::Place;
 use display::size::Size;
 use panel::readout::Readout;
 use std::alloc::{AllocError, Global};
@@ -18,25 +20,27 @@ pub(crate) fn pen_digit(glyph: Glyph) -> u8
     b"0123456789ABCDEF"[(glyph.pen % 16) as usize]
 }
 
-// The glyph at the place with a number, as the rules number places, and blank past the last.
-fn glyph_at<P: Readout>(panel: &P, number: usize) -> Glyph
-    ensures { result ≡ slice_index_or (P.Panel.meaning panel.now).surface.picture number blank }
+// The glyph at a place of the panel.
+fn glyph_at<P: Readout>(panel: &P, place: Place) -> Glyph
+    requires { On (P.Panel.meaning panel.now).surface.size place }
+    ensures { result ≡ slice_index_or (P.Panel.meaning panel.now).surface.picture
+        (number (P.Panel.meaning panel.now).surface.size place) blank }
 {
-    match panel.size().place_at(number) {
-        Some(place) => panel.glyph(place).unwrap_or(Glyph::BLANK),
-        None => Glyph::BLANK,
-    }
+    panel.glyph(place).unwrap_or(Glyph::BLANK)
 }
 
-// The whole picture, read cell by cell.
+// The whole picture, read cell by cell and row by row: the place of a cell is then told without a division.
 pub(crate) fn read_picture<P: Readout>(heap: Global, panel: &P) -> Result<Vec<Glyph>, AllocError>
     ensures read { IfOk result (λ v. v.items ≡ (P.Panel.meaning panel.now).surface.picture) }
     ensures filled { length (P.Panel.meaning panel.now).surface.picture
         ≡ (P.Panel.answers panel.now).size.rows * (P.Panel.answers panel.now).size.columns }
 {
-    (0..panel.size().places())
-        .map(|number| glyph_at(panel, number))
-        .collect(heap)
+    let size = panel.size();
+    let mut picture = Vec::with_capacity(heap, size.places())?;
+    for row in 0..size.rows {
+        picture.extend((0..size.columns).map(|column| glyph_at(panel, Place { row, column })))?;
+    }
+    Ok(picture)
 }
 
 // All rows of a picture, each between bars. A cell is written as a byte.

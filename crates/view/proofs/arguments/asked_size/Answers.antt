@@ -1,10 +1,8 @@
--- Words that ask for a size ask for the panel of that size.
--- By hand: the search does not find it, also with this as a lemma that is named on the function: the step through
--- `from_residual`, after which the request is made of the size.
-use Rattle.view.specs.declared.requests.Kind.TheVariants.{DeferredWrap}
+-- By hand: the search does not take the answer that is passed on apart.
+use Rattle.std.proofs.Common.{rules}
+use Rattle.view.proofs.Asks.{size_asked}
 use Rattle.view.proofs.arguments.asked_size.Goals as goal
 
-pub returns-in_err-request : goal.returns-in_err-request
-returns-in_err-request c =
-    rw c.from_residual.ensures
-    (λ z asked. c.in_err-request.ensures (record { kind = DeferredWrap; size = z }) (record { kind = asked.kind; rows = asked.rows; columns = asked.columns }))
+pub returns : goal.returns
+returns c =
+    size_asked c.args.kind.now c.args.rows.now c.args.columns.now c.read_size.result (search rules) c.read_size.ensures
