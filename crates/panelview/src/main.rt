@@ -103,6 +103,13 @@ fn leg_by<P: Readout + Drop, K: Worded>(
     Ok(leg_to(rt.alloc(), &charted, leg.row, leg.column)??)
 }
 
+// Feeds the input to a panel and tells what it then shows. Not inlined either, so that the loop that feeds has the
+// registers to itself.
+#[inline(never)]
+fn text_of<P: Readout>(rt: &HostRuntime, panel: &mut P, input: &[u8]) -> anyhow::Result<Vec<u8>> {
+    Ok(show(rt.alloc(), panel, input)?)
+}
+
 // Feeds the input to a panel and prints what it then shows, and the leg from there if one is asked for.
 fn show_on<P: Readout + Drop>(
     rt: &HostRuntime,
@@ -110,7 +117,7 @@ fn show_on<P: Readout + Drop>(
     input: &[u8],
     leg: Option<LegRequest>,
 ) -> anyhow::Result<()> {
-    let mut text = show(rt.alloc(), &mut panel, input)?;
+    let mut text = text_of(rt, &mut panel, input)?;
     if let Some(leg) = leg {
         let told = match leg.costing {
             Costing::Byte => leg_by::<P, ByteCost>(rt, panel, leg)?,
